@@ -3,25 +3,25 @@ use Rattle.std.proofs.Common.{◌≡◌, ℕ, ◌+◌, ◌-◌, ◌==◌, ◌||�
 use Rattle.std.specs.List.{list_any}
 use Rattle.std.proofs.lemmas.Bool.{false≢true}
 use Rattle.std.proofs.Math.Path.{fun_ext}
-use Rattle.k_types.specs.declared.names.CellPhase.TheVariants.{Marked}
-use Rattle.k_types.specs.declared.names.Heap.{Heap}
-use Rattle.k_types.specs.declared.names.Heap.TheVariants.{Kernel}
-use Rattle.k_types.specs.declared.names.Name.{Name}
-use Rattle.k_types.specs.Agree.{BookValue, CellValue, book_shown_by}
-use Rattle.k_types.specs.Counted.{counted}
-use Rattle.k_types.specs.Cells.{BookPart, Cell, CellPart, part, book_part}
-use Rattle.k_types.specs.Effects.{after_ended}
-use Rattle.k_types.specs.Names.{name_among, name_eq}
-use Rattle.k_types.specs.Numbers.{numbers_below}
-use Rattle.k_types.specs.Owners.{owner_of, user, object_bytes}
-use Rattle.k_types.specs.Sound.{IsSound}
-use Rattle.k_types.specs.State.{State, has_exit, has_share, refers}
-use Rattle.k_types.specs.Totals.{total}
-use Rattle.k_types.specs.Trace.{Trace, limit_of, segment_count}
-use Rattle.k_types.specs.TraceRules.{AreLimits}
-use Rattle.k_types.specs.Updates.{close_scan, keep_shares, keep_exits, keep_objects}
-use Rattle.k_base.proofs.NameTests.{name_eq-true}
-use Rattle.k_base.proofs.Sums.{sum_same, parts_sum}
+use Rattle.k_locality.specs.k_types.declared.names.CellPhase.TheVariants.{Marked}
+use Rattle.k_locality.specs.k_types.declared.names.Heap.{Heap}
+use Rattle.k_locality.specs.k_types.declared.names.Heap.TheVariants.{Kernel}
+use Rattle.k_locality.specs.k_types.declared.names.Name.{Name}
+use Rattle.k_locality.specs.k_types.Agree.{BookValue, CellValue, book_shown_by}
+use Rattle.k_locality.specs.k_types.Counted.{counted}
+use Rattle.k_locality.specs.k_types.Cells.{BookPart, Cell, CellPart, part, book_part}
+use Rattle.k_locality.specs.k_types.Effects.{after_ended}
+use Rattle.k_locality.specs.k_types.Names.{name_among, name_eq}
+use Rattle.k_locality.specs.k_types.Numbers.{numbers_below}
+use Rattle.k_locality.specs.k_types.Owners.{owner_of, user, object_bytes}
+use Rattle.k_locality.specs.k_types.Sound.{IsSound}
+use Rattle.k_locality.specs.k_types.State.{State, has_exit, has_share, refers}
+use Rattle.k_locality.specs.k_types.Totals.{total}
+use Rattle.k_locality.specs.k_types.Trace.{Trace, limit_of, segment_count}
+use Rattle.k_locality.specs.k_types.TraceRules.{AreLimits}
+use Rattle.k_locality.specs.k_types.Updates.{close_scan, keep_shares, keep_exits, keep_objects}
+use Rattle.k_tie.proofs.NameTests.{name_eq-true}
+use Rattle.k_tie.proofs.Sums.{sum_same, parts_sum}
 use Rattle.k_locality.specs.Distinct.{AreDistinctNames}
 use Rattle.k_locality.specs.BookChanges.{bytes_in, drops, has_way_into, shared_by}
 use Rattle.k_locality.specs.CellChanges.{collected}

@@ -1,23 +1,23 @@
 -- What the book gives up is there, and goes one by one.
 use Rattle.std.proofs.Common.{◌≡◌, ℕ, zero, suc, length, ◌+◌, ◌<◌, ◌≤◌, ◌==◌, ◌&&◌, not, Bool, true, false, cond, refl, sym, ap, ◌∙◌, inl, inr, List, [], ◌∷◌, get_or, arith, Option, eq-eqb}
 use Rattle.std.proofs.lemmas.Bool.{false≢true, and_parts, false_from_ne_true, cases_eq}
-use Rattle.k_types.specs.declared.names.Heap.{Heap}
-use Rattle.k_types.specs.declared.names.Heap.TheVariants.{Kernel}
-use Rattle.k_types.specs.declared.names.Name.{Name}
-use Rattle.k_types.specs.Agree.{BookValue, CellValue}
-use Rattle.k_types.specs.Counted.{counted}
-use Rattle.k_types.specs.Cells.{BookPart, Cell, ShownPart, part, book_part, pins_of}
-use Rattle.k_types.specs.Limits.{direct_by}
-use Rattle.k_types.specs.Names.{heap_eq, leads_to, name_among, name_eq}
-use Rattle.k_types.specs.Numbers.{numbers_from}
-use Rattle.k_types.specs.Owners.{charge_of, owner_of, user}
-use Rattle.k_types.specs.Reach.{is_shared_heap}
-use Rattle.k_types.specs.Sound.{IsSound}
-use Rattle.k_types.specs.State.{State}
-use Rattle.k_types.specs.Totals.{total}
-use Rattle.k_types.specs.Trace.{Trace, limit_of, process_count}
-use Rattle.k_types.specs.TraceRules.{AreLimits}
-use Rattle.k_base.proofs.NameTests.{heap_eq-true, heap_eq_refl, name_eq-true}
+use Rattle.k_locality.specs.k_types.declared.names.Heap.{Heap}
+use Rattle.k_locality.specs.k_types.declared.names.Heap.TheVariants.{Kernel}
+use Rattle.k_locality.specs.k_types.declared.names.Name.{Name}
+use Rattle.k_locality.specs.k_types.Agree.{BookValue, CellValue}
+use Rattle.k_locality.specs.k_types.Counted.{counted}
+use Rattle.k_locality.specs.k_types.Cells.{BookPart, Cell, ShownPart, part, book_part, pins_of}
+use Rattle.k_locality.specs.k_types.Limits.{direct_by}
+use Rattle.k_locality.specs.k_types.Names.{heap_eq, leads_to, name_among, name_eq}
+use Rattle.k_locality.specs.k_types.Numbers.{numbers_from}
+use Rattle.k_locality.specs.k_types.Owners.{charge_of, owner_of, user}
+use Rattle.k_locality.specs.k_types.Reach.{is_shared_heap}
+use Rattle.k_locality.specs.k_types.Sound.{IsSound}
+use Rattle.k_locality.specs.k_types.State.{State}
+use Rattle.k_locality.specs.k_types.Totals.{total}
+use Rattle.k_locality.specs.k_types.Trace.{Trace, limit_of, process_count}
+use Rattle.k_locality.specs.k_types.TraceRules.{AreLimits}
+use Rattle.k_tie.proofs.NameTests.{heap_eq-true, heap_eq_refl, name_eq-true}
 use Rattle.k_locality.specs.Distinct.{AreDistinctNames}
 use Rattle.k_locality.specs.Changes.{MayExit}
 use Rattle.k_locality.specs.BookChanges.{registers_in}
@@ -28,9 +28,9 @@ use Rattle.k_agree.specs.GivingOnTheBook.{HasEntered, HasUnpinned, charged, lead
 use Rattle.k_agree.proofs.Credited.{kept_distinct, left_bit}
 use Rattle.k_agree.proofs.GivenOnTheBook.{charge_as_told}
 use Rattle.k_agree.proofs.Swept.{among_kept}
-use Rattle.k_base.proofs.Lists.{get_mapped}
-use Rattle.k_base.proofs.Sums.{passing_within}
-use Rattle.k_base.proofs.Exits.{exit_counted}
+use Rattle.k_tie.proofs.Lists.{get_mapped}
+use Rattle.k_tie.proofs.Sums.{passing_within}
+use Rattle.k_tie.proofs.Exits.{exit_counted}
 
 -- a number of a list is at most their sum, also of those that pass a test
 member_within : (f : ℕ → ℕ) (p first n : ℕ) → first ≤ p → p < first + n → f p ≤ total f (numbers_from first n)

@@ -2,19 +2,19 @@
 use Rattle.std.proofs.Common.{◌≡◌, ℕ, ◌&&◌, not, Bool, true, false, cond, refl, sym, ap, ◌∙◌, subst, List, ◌++◌, length, filter, get_or, Some, None, is_some}
 use Rattle.std.specs.List.{list_any}
 use Rattle.std.proofs.Math.Path.{fun_ext}
-use Rattle.k_types.specs.declared.names.CellPhase.TheVariants.{Begun, Marked}
-use Rattle.k_types.specs.declared.names.Name.{Name}
-use Rattle.k_types.specs.Agree.{CellValue, AreMarks}
-use Rattle.k_types.specs.Cells.{Cell, ShownPart, part, made_of}
-use Rattle.k_types.specs.Names.{heap_eq, name_among}
-use Rattle.k_types.specs.Owners.{owner_of, objects_of}
-use Rattle.k_types.specs.Reach.{closure, reach_among, reach_in}
-use Rattle.k_types.specs.Sound.{IsSound}
-use Rattle.k_types.specs.State.{State, Object, opening, has, refers, refers_in, scan_of}
-use Rattle.k_types.specs.Steps.{state_after}
-use Rattle.k_types.specs.Trace.{Trace}
-use Rattle.k_types.specs.TraceRules.{AreLimits}
-use Rattle.k_base.proofs.Objects.{has-kept, referrer}
+use Rattle.k_locality.specs.k_types.declared.names.CellPhase.TheVariants.{Begun, Marked}
+use Rattle.k_locality.specs.k_types.declared.names.Name.{Name}
+use Rattle.k_locality.specs.k_types.Agree.{CellValue, AreMarks}
+use Rattle.k_locality.specs.k_types.Cells.{Cell, ShownPart, part, made_of}
+use Rattle.k_locality.specs.k_types.Names.{heap_eq, name_among}
+use Rattle.k_locality.specs.k_types.Owners.{owner_of, objects_of}
+use Rattle.k_locality.specs.k_types.Reach.{closure, reach_among, reach_in}
+use Rattle.k_locality.specs.k_types.Sound.{IsSound}
+use Rattle.k_locality.specs.k_types.State.{State, Object, opening, has, refers, refers_in, scan_of}
+use Rattle.k_locality.specs.k_types.Steps.{state_after}
+use Rattle.k_locality.specs.k_types.Trace.{Trace}
+use Rattle.k_locality.specs.k_types.TraceRules.{AreLimits}
+use Rattle.k_tie.proofs.Objects.{has-kept, referrer}
 use Rattle.k_locality.proofs.Means.{reach_is, reached_refers}
 use Rattle.k_locality.proofs.SoundOpening.{opening_sound}
 use Rattle.k_locality.proofs.SoundSteps.{run_sound}

@@ -2,10 +2,10 @@
 use Rattle.std.proofs.Common.{◌≡◌, ℕ, ◌-◌, ◌*◌, ◌≤◌, List, [], ◌∷◌, length, get_or, sum_by, Option, Some, None, arith}
 use Rattle.std.specs.List.{AllByRecursion}
 use Rattle.std.proofs.lemmas.List.Sums.{sum_by-cons}
-use Rattle.k_types.specs.State.{Object}
-use Rattle.k_types.specs.Owners.{object_bytes}
-use Rattle.k_types.specs.Totals.{total}
-use Rattle.k_space.specs.Segments.{Row, SegmentValue, IsSegment, made, segment_bytes}
+use Rattle.k_mark.specs.k_types.State.{Object}
+use Rattle.k_mark.specs.k_types.Owners.{object_bytes}
+use Rattle.k_mark.specs.k_types.Totals.{total}
+use Rattle.k_mark.specs.k_space.Segments.{Row, SegmentValue, IsSegment, made, segment_bytes}
 use Rattle.k_mark.proofs.SweepSteps.{dead_rows}
 use Rattle.k_mark.specs.Sweeping.{dead_row, dead_bytes_of, dead_objects, dead_bytes}
 use Rattle.k_mark.proofs.Rows.{dead_sum}

@@ -3,14 +3,14 @@ use Rattle.std.proofs.Common.{◌≡◌, ◌≢◌, ℕ, zero, suc, ◌+◌, Boo
 use Rattle.std.proofs.lemmas.Bool.{cases_eq, false_from_ne_true}
 use Rattle.std.proofs.lemmas.List.{map-append}
 use Rattle.std.proofs.lemmas.List.Elements.{filter-append}
-use Rattle.k_types.specs.declared.names.Name.{Name}
-use Rattle.k_types.specs.Names.{name_eq}
-use Rattle.k_types.specs.State.{Object, Content}
-use Rattle.k_types.specs.Updates.{object_after_write}
-use Rattle.k_space.specs.Segments.{Row, Color, Black, SegmentValue, object_of, objects_from, segment_objects, row_at, with_row, some_marked, is_marked, gray_or_black, unmarked_segment}
-use Rattle.k_space.specs.Areas.{AreaValue, place_of, segment_at, row_in_segment, row_of_name, with_row_of, marked_at, unmarked, grayed, grayed_row, IsBlackened}
-use Rattle.k_space.proofs.AreaRows.{number_found, found, changed_is}
-use Rattle.k_base.proofs.NameTests.{name_eq-true}
+use Rattle.k_mark.specs.k_types.declared.names.Name.{Name}
+use Rattle.k_mark.specs.k_types.Names.{name_eq}
+use Rattle.k_mark.specs.k_types.State.{Object, Content}
+use Rattle.k_mark.specs.k_types.Updates.{object_after_write}
+use Rattle.k_mark.specs.k_space.Segments.{Row, Color, Black, SegmentValue, object_of, objects_from, segment_objects, row_at, with_row, some_marked, is_marked, gray_or_black, unmarked_segment}
+use Rattle.k_mark.specs.k_space.Areas.{AreaValue, place_of, segment_at, row_in_segment, row_of_name, with_row_of, marked_at, unmarked, grayed, grayed_row, IsBlackened}
+use Rattle.k_mark.proofs.AreaRows.{number_found, found, changed_is}
+use Rattle.k_changes.proofs.NameTests.{name_eq-true}
 use Rattle.k_mark.specs.Sweeping.{survivor, swept_segment, swept}
 use Rattle.k_areas.specs.Shown.{area_objects, objects_of_some}
 use Rattle.k_areas.proofs.Shown.{written_objects, recolored_objects, unmarked_objects}

@@ -1,17 +1,17 @@
 -- What the objects of an area say of names.
 use Rattle.std.proofs.Common.{◌≡◌, not, ℕ, Bool, true, false, cond, refl, sym, ap, ◌∙◌, List, Option, Some, None, is_some, option_map}
 use Rattle.std.proofs.lemmas.Bool.{and_from, and_parts}
-use Rattle.k_types.specs.declared.names.Name.{Name}
-use Rattle.k_types.specs.Names.{name_eq, heap_eq}
-use Rattle.k_types.specs.Trace.{Trace}
-use Rattle.k_types.specs.State.{State, Object, has, refers_in}
-use Rattle.k_types.specs.Owners.{owner_of}
-use Rattle.k_types.specs.Sound.{HasNoDangling}
-use Rattle.k_types.specs.Cells.{Cell, CellPart, part}
-use Rattle.k_base.proofs.Objects.{has-kept, refers_in-kept}
-use Rattle.k_space.specs.Segments.{Row, SegmentValue, made}
-use Rattle.k_space.specs.Areas.{AreaValue, segment_at, row_in_segment, row_of_name}
-use Rattle.k_base.proofs.NameTests.{name_eq_refl}
+use Rattle.k_mark.specs.k_types.declared.names.Name.{Name}
+use Rattle.k_mark.specs.k_types.Names.{name_eq, heap_eq}
+use Rattle.k_mark.specs.k_types.Trace.{Trace}
+use Rattle.k_mark.specs.k_types.State.{State, Object, has, refers_in}
+use Rattle.k_mark.specs.k_types.Owners.{owner_of}
+use Rattle.k_mark.specs.k_types.Sound.{HasNoDangling}
+use Rattle.k_mark.specs.k_types.Cells.{Cell, CellPart, part}
+use Rattle.k_mark.proofs.Objects.{has-kept, refers_in-kept}
+use Rattle.k_mark.specs.k_space.Segments.{Row, SegmentValue, made}
+use Rattle.k_mark.specs.k_space.Areas.{AreaValue, segment_at, row_in_segment, row_of_name}
+use Rattle.k_changes.proofs.NameTests.{name_eq_refl}
 use Rattle.k_areas.specs.Shown.{area_objects, HasNoneFrom}
 use Rattle.k_areas.specs.Parts.{ShowsPart, IsSoundInside, AreForeignTold}
 use Rattle.k_areas.proofs.Shown.{at_row, any_area}

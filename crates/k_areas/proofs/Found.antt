@@ -4,13 +4,13 @@ use Rattle.std.proofs.lemmas.Bool.{cases_eq, cases_lt}
 use Rattle.std.proofs.Math.Seq.{map-set_same}
 use Rattle.std.proofs.lemmas.List.Folds.{position_or_len-set}
 use Rattle.std.proofs.lemmas.Option.{get_or_from_slice_get, slice_get_within}
-use Rattle.k_space.specs.Segments.{SegmentValue, unmarked_segment}
-use Rattle.k_space.specs.Areas.{AreaValue, place_of, segment_at, HasDistinct, unmarked}
-use Rattle.k_space.proofs.AreaRows.{number_found, slice_get-set_same}
-use Rattle.k_space.proofs.Numbers.{distinct_from, distinct_to, none_there, not_there}
+use Rattle.k_mark.specs.k_space.Segments.{SegmentValue, unmarked_segment}
+use Rattle.k_mark.specs.k_space.Areas.{AreaValue, place_of, segment_at, HasDistinct, unmarked}
+use Rattle.k_mark.proofs.AreaRows.{number_found, slice_get-set_same}
+use Rattle.k_mark.proofs.Numbers.{distinct_from, distinct_to, none_there, not_there}
 use Rattle.k_areas.specs.Shown.{HasNoneFrom, AreNumberedBelow}
 use Rattle.k_mark.proofs.KeptMarked.{at_same, at_other}
-use Rattle.k_base.proofs.Lists.{slice_get-set_other}
+use Rattle.k_changes.proofs.Lists.{slice_get-set_other}
 
 -- each segment changed, but for its number
 pub at_map : (f : SegmentValue → SegmentValue) → ((s : SegmentValue) → (f s).number ≡ s.number) → (xs : List SegmentValue) (k : ℕ) → segment_at (map f xs) k ≡ option_map f (segment_at xs k)

@@ -2,23 +2,23 @@
 use Rattle.std.proofs.Common.{◌≡◌, ◌≢◌, ◌==◌, not, ℕ, zero, suc, ◌+◌, ◌<◌, ◌≤◌, Bool, true, false, cond, refl, sym, ap, ap₂, subst, ◌∙◌, inl, inr, List, [], ◌∷◌, ◌++◌, length, filter, Option, Some, None, IsTrue, eq-eqb, ne_eqb, arith}
 use Rattle.std.proofs.lemmas.Bool.{cases_eq}
 use Rattle.std.proofs.lemmas.List.Elements.{filter-append}
-use Rattle.k_base.proofs.Ordered.{IsBefore, ordered_before, ordered_tail}
-use Rattle.k_types.specs.declared.names.Name.{Name}
-use Rattle.k_types.specs.Names.{name_lt}
-use Rattle.k_types.specs.State.{Object}
-use Rattle.k_types.specs.Sound.{IsOrdered, IsOrderedFrom}
-use Rattle.k_types.specs.Updates.{with_object}
+use Rattle.k_mark.proofs.Ordered.{IsBefore, ordered_before, ordered_tail}
+use Rattle.k_mark.specs.k_types.declared.names.Name.{Name}
+use Rattle.k_mark.specs.k_types.Names.{name_lt}
+use Rattle.k_mark.specs.k_types.State.{Object}
+use Rattle.k_mark.specs.k_types.Sound.{IsOrdered, IsOrderedFrom}
+use Rattle.k_mark.specs.k_types.Updates.{with_object}
 use Rattle.k_changes.specs.CellChanges.{with_objects}
 use Rattle.k_changes.proofs.Merged.{placed_first}
-use Rattle.k_space.specs.Objects.{BodyValue}
-use Rattle.k_space.specs.Segments.{Row, SegmentValue, object_of, objects_from, segment_objects, placed, new_row}
-use Rattle.k_space.specs.Areas.{AreaValue, segment_at, with_segment}
-use Rattle.k_space.proofs.AreaRows.{number_found}
+use Rattle.k_mark.specs.k_space.Objects.{BodyValue}
+use Rattle.k_mark.specs.k_space.Segments.{Row, SegmentValue, object_of, objects_from, segment_objects, placed, new_row}
+use Rattle.k_mark.specs.k_space.Areas.{AreaValue, segment_at, with_segment}
+use Rattle.k_mark.proofs.AreaRows.{number_found}
 use Rattle.k_areas.specs.Shown.{area_objects, objects_of_some, HasNoneFrom, IsTakenOut}
 use Rattle.k_areas.proofs.Shown.{placed_objects}
 use Rattle.k_areas.proofs.Found.{at_push_same, at_push_other, at_set_same, at_set_other, found_below}
 use Rattle.k_areas.proofs.Changed.{changed_area}
-use Rattle.k_base.proofs.NameTests.{by_segment_lt, by_serial_lt}
+use Rattle.k_changes.proofs.NameTests.{by_segment_lt, by_serial_lt}
 
 -- all of the list come before the object
 abbrev AreBefore : List Object → Object → Type 0

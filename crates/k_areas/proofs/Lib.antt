@@ -8,3 +8,14 @@ pub mod Looked
 pub mod Named
 pub mod OfParts
 pub mod Bounded
+pub use Rattle.k_mark.proofs.Charges
+pub use Rattle.k_changes.proofs.Lists
+pub use Rattle.k_changes.proofs.Sums as BaseSums
+pub use Rattle.k_mark.proofs.Takes
+pub use Rattle.k_mark.proofs.KeptMarked
+pub use Rattle.k_mark.proofs.Rows
+pub use Rattle.k_mark.proofs.Telling
+pub use Rattle.k_mark.proofs.AreaRows
+pub use Rattle.k_mark.proofs.GrayLists
+pub use Rattle.k_mark.proofs.Segs
+pub use Rattle.k_mark.proofs.Taken

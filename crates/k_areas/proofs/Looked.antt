@@ -1,15 +1,15 @@
 -- What names find in an area that is changed.
 use Rattle.std.proofs.Common.{◌≡◌, ◌≢◌, ◌==◌, ◌||◌, ◌&&◌, ℕ, zero, suc, Bool, true, false, cond, refl, sym, ap, ◌∙◌, inl, inr, List, [], ◌∷◌, ◌++◌, length, map, get_or, slice_set, Option, Some, None, is_some, option_map, eq-eqb, ne_eqb, arith}
 use Rattle.std.proofs.lemmas.Bool.{cases_eq, cases_Bool, false≢true}
-use Rattle.k_types.specs.declared.names.Name.{Name}
-use Rattle.k_types.specs.Names.{name_eq}
-use Rattle.k_types.specs.State.{Content}
-use Rattle.k_base.proofs.NameTests.{name_eq-false, name_eq-true}
-use Rattle.k_space.specs.Objects.{BodyValue}
-use Rattle.k_space.specs.Segments.{Row, Color, White, Gray, Black, SegmentValue, row_at, placed, new_row, some_gray, some_black, some_marked, is_gray, is_black, is_marked, gray_or_black, unmarked_row, unmarked_segment}
-use Rattle.k_space.specs.Areas.{AreaValue, segment_at, row_in_segment, row_of_name, with_segment, with_row_of, marked_at, gray_at, black_at, grayed, grayed_row, unmarked}
-use Rattle.k_space.proofs.AreaRows.{found, after_same, after_other}
-use Rattle.k_space.proofs.NameTests.{name_eq-parts}
+use Rattle.k_mark.specs.k_types.declared.names.Name.{Name}
+use Rattle.k_mark.specs.k_types.Names.{name_eq}
+use Rattle.k_mark.specs.k_types.State.{Content}
+use Rattle.k_changes.proofs.NameTests.{name_eq-false, name_eq-true}
+use Rattle.k_mark.specs.k_space.Objects.{BodyValue}
+use Rattle.k_mark.specs.k_space.Segments.{Row, Color, White, Gray, Black, SegmentValue, row_at, placed, new_row, some_gray, some_black, some_marked, is_gray, is_black, is_marked, gray_or_black, unmarked_row, unmarked_segment}
+use Rattle.k_mark.specs.k_space.Areas.{AreaValue, segment_at, row_in_segment, row_of_name, with_segment, with_row_of, marked_at, gray_at, black_at, grayed, grayed_row, unmarked}
+use Rattle.k_mark.proofs.AreaRows.{found, after_same, after_other}
+use Rattle.k_mark.proofs.NameTests.{name_eq-parts}
 use Rattle.k_mark.proofs.Looks.{black_gray}
 use Rattle.k_mark.specs.Sweeping.{swept, swept_segment, survivor}
 use Rattle.k_areas.specs.Shown.{name_in}

@@ -1,20 +1,20 @@
 -- The lists of names of an area and of exit items.
 use Rattle.std.proofs.Common.{◌≡◌, ◌&&◌, ◌||◌, ℕ, zero, suc, ◌≤◌, Bool, true, false, cond, refl, sym, ap, ap₂, ◌∙◌, inl, inr, List, [], ◌∷◌, length, map, filter, get_or, Option, Some, None, is_some, option_map, arith}
 use Rattle.std.proofs.lemmas.Bool.{cases_lt, or_parts}
-use Rattle.k_types.specs.declared.names.Name.{Name}
-use Rattle.k_types.specs.Names.{name_eq, name_among}
-use Rattle.k_types.specs.Numbers.{numbers_from}
-use Rattle.k_types.specs.State.{Object}
-use Rattle.k_base.proofs.Objects.{has-kept, names_have}
-use Rattle.k_space.specs.Segments.{Row, SegmentValue, made, some_gray, some_black, unmarked_row as white_row}
-use Rattle.k_space.specs.Areas.{AreaValue, segment_at, row_of_name, gray_at, black_at, unmarked}
-use Rattle.k_base.proofs.NameTests.{name_eq_refl}
-use Rattle.k_exit.specs.Exits.{ExitRow, has_target, target_marked, targets, unmarked_row}
+use Rattle.k_mark.specs.k_types.declared.names.Name.{Name}
+use Rattle.k_mark.specs.k_types.Names.{name_eq, name_among}
+use Rattle.k_mark.specs.k_types.Numbers.{numbers_from}
+use Rattle.k_mark.specs.k_types.State.{Object}
+use Rattle.k_mark.proofs.Objects.{has-kept, names_have}
+use Rattle.k_mark.specs.k_space.Segments.{Row, SegmentValue, made, some_gray, some_black, unmarked_row as white_row}
+use Rattle.k_mark.specs.k_space.Areas.{AreaValue, segment_at, row_of_name, gray_at, black_at, unmarked}
+use Rattle.k_changes.proofs.NameTests.{name_eq_refl}
+use Rattle.k_mark.specs.k_exit.Exits.{ExitRow, has_target, target_marked, targets, unmarked_row}
 use Rattle.k_areas.specs.Shown.{area_objects, HasNoneFrom}
 use Rattle.k_areas.specs.Lists.{made_list, names_where, gray_names, black_names, marked_targets}
 use Rattle.k_areas.proofs.Foreign.{area_has}
 use Rattle.k_areas.proofs.Looked.{row_unmarked}
-use Rattle.k_base.proofs.Lists.{at_number, mapped_length}
+use Rattle.k_changes.proofs.Lists.{at_number, mapped_length}
 
 numbered_past : (f : ℕ → Option ℕ) (first n i : ℕ) → n ≤ i → get_or (map f (numbers_from first n)) i None ≡ None
 numbered_past f first zero i past = refl

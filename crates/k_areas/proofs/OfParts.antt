@@ -3,25 +3,25 @@ use Rattle.std.proofs.Common.{◌≡◌, ◌≢◌, ◌==◌, ◌&&◌, not, ℕ
 use Rattle.std.proofs.Math.Path.{fun_ext}
 use Rattle.std.proofs.lemmas.Bool.{cases_eq}
 use Rattle.std.proofs.lemmas.List.{length-append, length-map, length-set}
-use Rattle.k_types.specs.declared.names.Name.{Name}
-use Rattle.k_types.specs.declared.names.Heap.{Heap}
-use Rattle.k_types.specs.declared.names.TypeId.{TypeId}
-use Rattle.k_types.specs.declared.names.Field.{Field}
-use Rattle.k_types.specs.Names.{name_eq, name_among}
-use Rattle.k_types.specs.Types.{type_row}
-use Rattle.k_types.specs.State.{Object, Content, has, refers}
-use Rattle.k_types.specs.Owners.{object_bytes}
-use Rattle.k_types.specs.Reach.{reach_among}
-use Rattle.k_types.specs.Totals.{total}
-use Rattle.k_types.specs.Updates.{with_object, object_after_write}
-use Rattle.k_types.specs.Cells.{CellPart}
-use Rattle.k_frame.specs.PartUpdates.{with_written}
-use Rattle.k_space.specs.Objects.{new_body}
-use Rattle.k_space.specs.Segments.{Row, Color, White, Gray, Black, is_gray, is_black, is_marked, some_gray, some_black, some_marked, SegmentValue, object_of, placed, made, new_row, with_row, unmarked_row, unmarked_segment}
-use Rattle.k_space.specs.Areas.{AreaValue, black_at, is_foreign, marked_at, place_of, row_of_name, segment_at, with_segment, with_row_of, unmarked, gray_at}
-use Rattle.k_space.proofs.AreaRows.{Found, found, number_found, changed_is}
-use Rattle.k_base.proofs.NameTests.{name_eq_refl}
-use Rattle.k_space.proofs.Numbers.{distinct_push}
+use Rattle.k_mark.specs.k_types.declared.names.Name.{Name}
+use Rattle.k_mark.specs.k_types.declared.names.Heap.{Heap}
+use Rattle.k_mark.specs.k_types.declared.names.TypeId.{TypeId}
+use Rattle.k_mark.specs.k_types.declared.names.Field.{Field}
+use Rattle.k_mark.specs.k_types.Names.{name_eq, name_among}
+use Rattle.k_mark.specs.k_types.Types.{type_row}
+use Rattle.k_mark.specs.k_types.State.{Object, Content, has, refers}
+use Rattle.k_mark.specs.k_types.Owners.{object_bytes}
+use Rattle.k_mark.specs.k_types.Reach.{reach_among}
+use Rattle.k_mark.specs.k_types.Totals.{total}
+use Rattle.k_mark.specs.k_types.Updates.{with_object, object_after_write}
+use Rattle.k_mark.specs.k_types.Cells.{CellPart}
+use Rattle.k_mark.specs.k_frame.PartUpdates.{with_written}
+use Rattle.k_mark.specs.k_space.Objects.{new_body}
+use Rattle.k_mark.specs.k_space.Segments.{Row, Color, White, Gray, Black, is_gray, is_black, is_marked, some_gray, some_black, some_marked, SegmentValue, object_of, placed, made, new_row, with_row, unmarked_row, unmarked_segment}
+use Rattle.k_mark.specs.k_space.Areas.{AreaValue, black_at, is_foreign, marked_at, place_of, row_of_name, segment_at, with_segment, with_row_of, unmarked, gray_at}
+use Rattle.k_mark.proofs.AreaRows.{Found, found, number_found, changed_is}
+use Rattle.k_changes.proofs.NameTests.{name_eq_refl}
+use Rattle.k_mark.proofs.Numbers.{distinct_push}
 use Rattle.k_mark.specs.Marking.{ShowsObjects, some_lead_to}
 use Rattle.k_mark.specs.Sweeping.{swept, swept_segment, survivor, dead_bytes, dead_objects}
 use Rattle.k_mark.proofs.ReachedIs.{area_reaches, area_exits}
@@ -32,15 +32,15 @@ use Rattle.k_areas.specs.Parts.{ShowsPart, ShowBoth, IsMarkedPart}
 use Rattle.k_areas.proofs.Found.{at_map, at_push_same, at_push_other, at_set_same, at_set_other, found_below, same_numbered, set_number, map_number, unmarked_numbers}
 use Rattle.k_areas.proofs.Changed.{same_area, swept_objects, written_area}
 use Rattle.k_areas.proofs.Joined.{placed_area, joined_area, alone_area, none_area}
-use Rattle.k_exit.specs.Exits.{ExitRow, target_marked}
+use Rattle.k_mark.specs.k_exit.Exits.{ExitRow, target_marked}
 use Rattle.std.specs.List.{list_any}
-use Rattle.k_base.proofs.Tests.{same_test}
+use Rattle.k_changes.proofs.Tests.{same_test}
 use Rattle.k_areas.specs.Lists.{black_names, marked_targets}
 use Rattle.k_areas.specs.Parts.{AreExitsMarked}
 use Rattle.k_areas.proofs.Named.{black_named, marked_named}
 use Rattle.k_areas.proofs.Sums.{dead_counted, dead_weighed}
 use Rattle.k_mark.proofs.KeptMarked.{at_same, at_other}
-use Rattle.k_base.proofs.Lists.{some_one}
+use Rattle.k_changes.proofs.Lists.{some_one}
 
 -- what is black is what is marked, where nothing is gray
 pub black_marked : (a : AreaValue) → ((n : Name) → gray_at a n ≡ false) → (n : Name) → black_at a n ≡ marked_at a n

@@ -2,17 +2,17 @@
 use Rattle.std.proofs.Common.{◌≡◌, ◌≢◌, ◌||◌, ◌⊎◌, not, ℕ, zero, suc, ◌+◌, ◌<◌, ◌≤◌, Bool, true, false, cond, refl, sym, ap, ap₂, ◌∙◌, inl, inr, List, [], ◌∷◌, ◌++◌, length, map, filter, get_or, set, slice_set, Option, Some, None, arith}
 use Rattle.std.specs.List.{list_any}
 use Rattle.std.proofs.lemmas.Bool.{cases_eq, cases_lt, false_from_ne_true}
-use Rattle.k_types.specs.declared.names.Name.{Name}
-use Rattle.k_types.specs.Names.{name_eq}
-use Rattle.k_types.specs.State.{Content, Object}
-use Rattle.k_types.specs.Updates.{object_after_write}
-use Rattle.k_space.specs.Objects.{BodyValue}
-use Rattle.k_space.specs.Segments.{Row, Color, SegmentValue, object_of, objects_from, segment_objects, row_at, with_row, placed, new_row, unmarked_row, unmarked_segment}
-use Rattle.k_space.specs.Areas.{segment_at, row_in_segment, row_of_name}
+use Rattle.k_mark.specs.k_types.declared.names.Name.{Name}
+use Rattle.k_mark.specs.k_types.Names.{name_eq}
+use Rattle.k_mark.specs.k_types.State.{Content, Object}
+use Rattle.k_mark.specs.k_types.Updates.{object_after_write}
+use Rattle.k_mark.specs.k_space.Objects.{BodyValue}
+use Rattle.k_mark.specs.k_space.Segments.{Row, Color, SegmentValue, object_of, objects_from, segment_objects, row_at, with_row, placed, new_row, unmarked_row, unmarked_segment}
+use Rattle.k_mark.specs.k_space.Areas.{segment_at, row_in_segment, row_of_name}
 use Rattle.k_areas.specs.Shown.{area_objects, objects_of_some, HasNoneFrom}
-use Rattle.k_space.proofs.AreaRows.{number_found}
-use Rattle.k_base.proofs.NameTests.{name_eq-true}
-use Rattle.k_space.proofs.NameTests.{name_eq-parts}
+use Rattle.k_mark.proofs.AreaRows.{number_found}
+use Rattle.k_changes.proofs.NameTests.{name_eq-true}
+use Rattle.k_mark.proofs.NameTests.{name_eq-parts}
 use Rattle.std.proofs.lemmas.List.Folds.{list_any-append}
 
 -- what a test says of the object of a name, if there is one

@@ -4,13 +4,13 @@ use Rattle.std.proofs.lemmas.Bool.{cases_eq}
 use Rattle.std.proofs.lemmas.List.{length-append}
 use Rattle.std.proofs.lemmas.List.Elements.{filter-append}
 use Rattle.std.proofs.lemmas.List.Sums.{sum_by-cons}
-use Rattle.k_types.specs.declared.names.Name.{Name}
-use Rattle.k_types.specs.State.{Object}
-use Rattle.k_types.specs.Owners.{object_bytes}
-use Rattle.k_types.specs.Totals.{total}
-use Rattle.k_base.proofs.Sums.{total_append}
-use Rattle.k_space.specs.Segments.{Row, SegmentValue, object_of, objects_from, segment_objects, segment_bytes, some_marked, is_marked}
-use Rattle.k_space.specs.Areas.{AreaValue, HasDistinct, segment_at, marked_at}
+use Rattle.k_mark.specs.k_types.declared.names.Name.{Name}
+use Rattle.k_mark.specs.k_types.State.{Object}
+use Rattle.k_mark.specs.k_types.Owners.{object_bytes}
+use Rattle.k_mark.specs.k_types.Totals.{total}
+use Rattle.k_changes.proofs.Sums.{total_append}
+use Rattle.k_mark.specs.k_space.Segments.{Row, SegmentValue, object_of, objects_from, segment_objects, segment_bytes, some_marked, is_marked}
+use Rattle.k_mark.specs.k_space.Areas.{AreaValue, HasDistinct, segment_at, marked_at}
 use Rattle.k_mark.specs.Sweeping.{dead_row, dead_bytes_of, dead_objects, dead_bytes}
 use Rattle.k_areas.specs.Shown.{area_objects, objects_of_some, HasNoneFrom, AreNumberedBelow}
 use Rattle.k_areas.proofs.Found.{distinct_tail, head_gone, none_tail, found_below}

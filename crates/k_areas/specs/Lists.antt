@@ -1,10 +1,10 @@
 -- The lists that the value of a cell has of its area and its exit items.
 use Rattle.std.specs.Prelude.{ℕ, Bool, List, map, filter, Option, option_map}
-use Rattle.k_types.specs.declared.names.Name.{Name}
-use Rattle.k_types.specs.Numbers.{numbers_below}
-use Rattle.k_space.specs.Segments.{SegmentValue, made}
-use Rattle.k_space.specs.Areas.{AreaValue, segment_at, gray_at, black_at}
-use Rattle.k_exit.specs.Exits.{ExitRow, targets}
+use Rattle.k_mark.specs.k_types.declared.names.Name.{Name}
+use Rattle.k_mark.specs.k_types.Numbers.{numbers_below}
+use Rattle.k_mark.specs.k_space.Segments.{SegmentValue, made}
+use Rattle.k_mark.specs.k_space.Areas.{AreaValue, segment_at, gray_at, black_at}
+use Rattle.k_mark.specs.k_exit.Exits.{ExitRow, targets}
 use Rattle.k_areas.specs.Shown.{area_objects}
 
 -- for each number below the bound, how many serials its segment gave; none where no segment has the number

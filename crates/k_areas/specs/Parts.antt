@@ -1,12 +1,12 @@
 -- An area that shows the part of a cell, as the machine has it.
 use Rattle.std.specs.Prelude.{◌≡◌, ℕ, ◌<◌, ◌↔◌, not, List, [], ◌∷◌, length, IsTrue, IsFalse, Some, None, is_some, option_map, unwrap_or}
-use Rattle.k_types.specs.declared.names.Name.{Name}
-use Rattle.k_types.specs.Names.{name_among}
-use Rattle.k_types.specs.State.{has, refers_in}
-use Rattle.k_types.specs.Cells.{CellPart}
-use Rattle.k_space.specs.Segments.{SegmentValue, made}
-use Rattle.k_space.specs.Areas.{AreaValue, segment_at, marked_at, gray_at, is_foreign, unmarked}
-use Rattle.k_exit.specs.Exits.{ExitRow, target_marked}
+use Rattle.k_mark.specs.k_types.declared.names.Name.{Name}
+use Rattle.k_mark.specs.k_types.Names.{name_among}
+use Rattle.k_mark.specs.k_types.State.{has, refers_in}
+use Rattle.k_mark.specs.k_types.Cells.{CellPart}
+use Rattle.k_mark.specs.k_space.Segments.{SegmentValue, made}
+use Rattle.k_mark.specs.k_space.Areas.{AreaValue, segment_at, marked_at, gray_at, is_foreign, unmarked}
+use Rattle.k_mark.specs.k_exit.Exits.{ExitRow, target_marked}
 use Rattle.k_mark.specs.Marking.{IsReachedIn, IsExit}
 use Rattle.k_areas.specs.Shown.{area_objects, AreNumberedBelow}
 

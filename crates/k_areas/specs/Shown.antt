@@ -1,10 +1,10 @@
 -- The objects that an area shows, as the machine has them.
 use Rattle.std.specs.Prelude.{◌≡◌, ◌≢◌, ℕ, zero, suc, ◌<◌, ◌≤◌, Bool, false, List, [], ◌++◌, Option, Some, None}
 use Rattle.std.specs.List.{list_any}
-use Rattle.k_types.specs.declared.names.Name.{Name}
-use Rattle.k_types.specs.State.{Object, content_leads_to}
-use Rattle.k_space.specs.Segments.{Row, SegmentValue, segment_objects}
-use Rattle.k_space.specs.Areas.{segment_at, HasDistinct}
+use Rattle.k_mark.specs.k_types.declared.names.Name.{Name}
+use Rattle.k_mark.specs.k_types.State.{Object, content_leads_to}
+use Rattle.k_mark.specs.k_space.Segments.{Row, SegmentValue, segment_objects}
+use Rattle.k_mark.specs.k_space.Areas.{segment_at, HasDistinct}
 
 -- the name of a serial of the segment
 abbrev pub name_in : SegmentValue → ℕ → Name

@@ -1,15 +1,15 @@
 //! Laws of the changes of an area, told by its objects.
 ghost use Rattle.std.specs.Prelude.{◌≡◌, ◌<◌, ◌≤◌, ◌++◌, ◌∷◌, [], ◌==◌, not, ℕ, List, map, filter, length, slice_set, Some, None};
 ghost use Rattle.std.specs.List.{sum_by};
-ghost use Rattle.k_types.specs.declared.names.Name.{Name};
-ghost use Rattle.k_types.specs.State.{Content};
-ghost use Rattle.k_types.specs.Owners.{object_bytes};
-ghost use Rattle.k_types.specs.Totals.{total};
-ghost use Rattle.k_types.specs.Updates.{object_after_write, with_object};
-ghost use Rattle.k_types.specs.Sound.{IsOrdered};
-ghost use Rattle.k_space.specs.Objects.{BodyValue};
-ghost use Rattle.k_space.specs.Segments.{Row, SegmentValue, object_of, segment_objects, segment_bytes, placed, new_row};
-ghost use Rattle.k_space.specs.Areas.{AreaValue, HasDistinct, IsBlackened, marked_at, row_of_name, segment_at, with_segment, with_row_of, grayed, unmarked};
+ghost use Rattle.k_mark.specs.k_types.declared.names.Name.{Name};
+ghost use Rattle.k_mark.specs.k_types.State.{Content};
+ghost use Rattle.k_mark.specs.k_types.Owners.{object_bytes};
+ghost use Rattle.k_mark.specs.k_types.Totals.{total};
+ghost use Rattle.k_mark.specs.k_types.Updates.{object_after_write, with_object};
+ghost use Rattle.k_mark.specs.k_types.Sound.{IsOrdered};
+ghost use Rattle.k_mark.specs.k_space.Objects.{BodyValue};
+ghost use Rattle.k_mark.specs.k_space.Segments.{Row, SegmentValue, object_of, segment_objects, segment_bytes, placed, new_row};
+ghost use Rattle.k_mark.specs.k_space.Areas.{AreaValue, HasDistinct, IsBlackened, marked_at, row_of_name, segment_at, with_segment, with_row_of, grayed, unmarked};
 ghost use Rattle.k_mark.specs.Sweeping.{swept, dead_bytes, dead_objects};
 ghost use Rattle.k_changes.specs.CellChanges.{with_objects};
 ghost use Rattle.k_areas.specs.Shown.{area_objects, HasNoneFrom, AreNumberedBelow, IsTakenOut};

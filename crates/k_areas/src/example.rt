@@ -1,9 +1,9 @@
 //! A worked collection of three nodes.
 ghost use Rattle.std.specs.Prelude.{◌≡◌, ◌∷◌, [], map, true, false};
-ghost use Rattle.k_types.specs.State.{has};
-ghost use Rattle.k_types.specs.Reach.{reach_among};
-ghost use Rattle.k_space.specs.Segments.{Black, White};
-ghost use Rattle.k_space.specs.Areas.{marked_at};
+ghost use Rattle.k_mark.specs.k_types.State.{has};
+ghost use Rattle.k_mark.specs.k_types.Reach.{reach_among};
+ghost use Rattle.k_mark.specs.k_space.Segments.{Black, White};
+ghost use Rattle.k_mark.specs.k_space.Areas.{marked_at};
 ghost use Rattle.k_mark.specs.Marking.{work};
 ghost use Rattle.k_mark.specs.Sweeping.{dead_bytes, dead_objects};
 ghost use Rattle.k_mark.specs.Example.{node_name, three_nodes};

@@ -1,10 +1,10 @@
 //! Laws of the lists of an area and of exit items.
 ghost use Rattle.std.specs.Prelude.{◌≡◌, [], ℕ, List, map, length, slice_index_or, None, option_map, IsFalse};
-ghost use Rattle.k_types.specs.declared.names.Name.{Name};
-ghost use Rattle.k_types.specs.Names.{name_among};
-ghost use Rattle.k_space.specs.Segments.{SegmentValue, made};
-ghost use Rattle.k_space.specs.Areas.{AreaValue, segment_at, gray_at, black_at, unmarked};
-ghost use Rattle.k_exit.specs.Exits.{ExitRow, has_target, target_marked, targets, unmarked_row};
+ghost use Rattle.k_mark.specs.k_types.declared.names.Name.{Name};
+ghost use Rattle.k_mark.specs.k_types.Names.{name_among};
+ghost use Rattle.k_mark.specs.k_space.Segments.{SegmentValue, made};
+ghost use Rattle.k_mark.specs.k_space.Areas.{AreaValue, segment_at, gray_at, black_at, unmarked};
+ghost use Rattle.k_mark.specs.k_exit.Exits.{ExitRow, has_target, target_marked, targets, unmarked_row};
 ghost use Rattle.k_areas.specs.Shown.{HasNoneFrom};
 ghost use Rattle.k_areas.specs.Lists.{made_list, gray_names, black_names, marked_targets};
 

@@ -1,11 +1,11 @@
 //! Laws of what a name finds in an area.
 ghost use Rattle.std.specs.Prelude.{if◌then◌else◌, ◌≡◌, ◌++◌, ◌∷◌, [], ◌==◌, ◌||◌, ◌&&◌, ℕ, List, length, slice_set, is_some, IsFalse, Some, None};
-ghost use Rattle.k_types.specs.declared.names.Name.{Name};
-ghost use Rattle.k_types.specs.Names.{name_eq};
-ghost use Rattle.k_types.specs.State.{Content};
-ghost use Rattle.k_space.specs.Objects.{BodyValue};
-ghost use Rattle.k_space.specs.Segments.{Row, SegmentValue, row_at, placed, new_row, some_gray, unmarked_row};
-ghost use Rattle.k_space.specs.Areas.{AreaValue, row_of_name, segment_at, with_segment, with_row_of, marked_at, gray_at, black_at, grayed, unmarked};
+ghost use Rattle.k_mark.specs.k_types.declared.names.Name.{Name};
+ghost use Rattle.k_mark.specs.k_types.Names.{name_eq};
+ghost use Rattle.k_mark.specs.k_types.State.{Content};
+ghost use Rattle.k_mark.specs.k_space.Objects.{BodyValue};
+ghost use Rattle.k_mark.specs.k_space.Segments.{Row, SegmentValue, row_at, placed, new_row, some_gray, unmarked_row};
+ghost use Rattle.k_mark.specs.k_space.Areas.{AreaValue, row_of_name, segment_at, with_segment, with_row_of, marked_at, gray_at, black_at, grayed, unmarked};
 ghost use Rattle.k_mark.specs.Sweeping.{swept, survivor};
 ghost use Rattle.k_areas.specs.Shown.{name_in};
 

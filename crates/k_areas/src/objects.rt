@@ -1,12 +1,12 @@
 //! Laws of the objects that an area shows.
 ghost use Rattle.std.specs.Prelude.{◌≡◌, ◌++◌, ◌∷◌, [], ◌&&◌, not, Bool, ℕ, List, map, filter, length, slice_set, Option, Some, is_some, option_map, None, true, false};
-ghost use Rattle.k_types.specs.declared.names.Name.{Name};
-ghost use Rattle.k_types.specs.Names.{name_eq};
-ghost use Rattle.k_types.specs.State.{Content, has, refers_in};
-ghost use Rattle.k_types.specs.Updates.{object_after_write};
-ghost use Rattle.k_space.specs.Objects.{BodyValue};
-ghost use Rattle.k_space.specs.Segments.{Row, Color, SegmentValue, object_of, segment_objects, row_at, with_row, placed, new_row, unmarked_segment};
-ghost use Rattle.k_space.specs.Areas.{AreaValue, row_of_name};
+ghost use Rattle.k_mark.specs.k_types.declared.names.Name.{Name};
+ghost use Rattle.k_mark.specs.k_types.Names.{name_eq};
+ghost use Rattle.k_mark.specs.k_types.State.{Content, has, refers_in};
+ghost use Rattle.k_mark.specs.k_types.Updates.{object_after_write};
+ghost use Rattle.k_mark.specs.k_space.Objects.{BodyValue};
+ghost use Rattle.k_mark.specs.k_space.Segments.{Row, Color, SegmentValue, object_of, segment_objects, row_at, with_row, placed, new_row, unmarked_segment};
+ghost use Rattle.k_mark.specs.k_space.Areas.{AreaValue, row_of_name};
 ghost use Rattle.k_areas.specs.Shown.{name_in, area_objects, HasNoneFrom, some_refers};
 ghost use Rattle.k_mark.specs.Marking.{ShowsObjects};
 

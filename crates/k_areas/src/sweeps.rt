@@ -1,11 +1,11 @@
 //! Laws of what a sweep adds up.
 ghost use Rattle.std.specs.Prelude.{◌≡◌, ◌*◌, ◌≤◌, ◌∷◌, [], ℕ, List, length};
 ghost use Rattle.std.specs.List.{AllByRecursion};
-ghost use Rattle.k_types.specs.State.{Object};
-ghost use Rattle.k_types.specs.Owners.{object_bytes};
-ghost use Rattle.k_types.specs.Totals.{total};
-ghost use Rattle.k_space.specs.Segments.{SegmentValue, IsSegment, made};
-ghost use Rattle.k_space.specs.Areas.{AreaValue};
+ghost use Rattle.k_mark.specs.k_types.State.{Object};
+ghost use Rattle.k_mark.specs.k_types.Owners.{object_bytes};
+ghost use Rattle.k_mark.specs.k_types.Totals.{total};
+ghost use Rattle.k_mark.specs.k_space.Segments.{SegmentValue, IsSegment, made};
+ghost use Rattle.k_mark.specs.k_space.Areas.{AreaValue};
 ghost use Rattle.k_mark.specs.Sweeping.{dead_bytes, dead_objects};
 ghost use Rattle.k_areas.specs.Shown.{area_objects, AreNumberedBelow};
 

@@ -2,3 +2,17 @@ pub mod Numbers
 pub mod Resized
 pub mod Telling
 pub mod OnPart
+pub use Rattle.k_agree.proofs.AtTheEnd
+pub use Rattle.k_agree.proofs.Commits
+pub use Rattle.k_agree.proofs.Meetings
+pub use Rattle.k_agree.proofs.Openings
+pub use Rattle.k_agree.proofs.Published
+pub use Rattle.k_agree.proofs.WithinRooms
+pub use Rattle.k_agree.proofs.Laws
+pub use Rattle.k_agree.proofs.ToldBy
+pub use Rattle.k_entered.proofs.WholeWalks
+pub use Rattle.k_agree.proofs.LawsLaws
+pub use Rattle.k_agree.proofs.Means
+pub use Rattle.k_agree.proofs.SoundSteps
+pub use Rattle.k_agree.proofs.SoundStore
+pub use Rattle.k_agree.proofs.UseShown

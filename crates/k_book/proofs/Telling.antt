@@ -23,7 +23,7 @@ use Rattle.k_base.proofs.Maxima.{hard_in, maxima_count, parent_in, twice_in}
 use Rattle.k_limits.specs.Laws.{AreCharges}
 use Rattle.k_limits.specs.Limits.{charged_limits, full_at, use_at, is_full_at}
 use Rattle.k_limits.proofs.MachineUses.{machine_fulls, machine_uses}
-use Rattle.k_tie.specs.Values.{empty_journal}
+use Rattle.k_agree.specs.k_tie.Values.{empty_journal}
 use Rattle.k_agree.specs.Agreement.{BookAgrees, BookShows}
 use Rattle.k_agree.proofs.Openings.{opened_book}
 use Rattle.k_shares.specs.Sharers.{is_orphan_by, lowest_orphan}

@@ -1,11 +1,11 @@
 //! The journal of the book.
 ghost use Rattle.std.specs.Prelude.{◌≡◌, ◌≢◌, ◌+◌, ◌<◌, ◌≤◌, ◌^◌, Some, length, slice_get};
 ghost use Rattle.k_types.specs.Complete.{IsPrefixOf};
-ghost use Rattle.k_tie.specs.Rule.{total_of};
+ghost use Rattle.k_agree.specs.k_tie.Rule.{total_of};
 ghost use Rattle.k_journal.specs.Kept.{with_event, with_touch};
 
 use crate::parts::Book;
-use k_tie::Note;
+use k_agree::Note;
 use k_types::Event;
 
 impl Book {

@@ -6,7 +6,7 @@ ghost use Rattle.k_types.specs.State.{State};
 ghost use Rattle.k_types.specs.Trace.{Trace, trace_of};
 ghost use Rattle.k_types.specs.TraceRules.{IsTree};
 ghost use Rattle.atomic_table.specs.Seated.{TableId};
-ghost use Rattle.k_tie.specs.Values.{empty_journal};
+ghost use Rattle.k_agree.specs.k_tie.Values.{empty_journal};
 ghost use Rattle.k_agree.specs.Agreement.{BookAgrees, BookShows};
 ghost use Rattle.k_book.specs.Books.{BookRecord, opened};
 ghost use Rattle.k_book.specs.Machine.{IsBookOf, TellsTheMachine, TellsTheLimits};

@@ -1,26 +1,26 @@
 -- A history absorbs each shared heap at most once, and closes at most once.
 use Rattle.std.proofs.Common.{◌≡◌, ℕ, zero, suc, ◌+◌, ◌≤◌, ◌<◌, not, true, false, refl, ap, sym, inl, inr, List, [], ◌∷◌, ◌++◌, length, replicate, set, Option, Some, None, arith, IsTrue}
 use Rattle.std.proofs.lemmas.Bool.{false≢true, cases_lt, not-false, and_parts}
-use Rattle.k_types.specs.declared.names.Name.{Name}
-use Rattle.k_types.specs.declared.names.Heap.{Heap}
-use Rattle.k_types.specs.declared.names.Heap.TheVariants.{Shared}
-use Rattle.k_types.specs.declared.names.Phase.{Phase}
-use Rattle.k_types.specs.declared.names.Phase.TheVariants.{Unmade, Populating, Frozen, Absorbed}
-use Rattle.k_types.specs.declared.op.Op.{Op}
-use Rattle.k_types.specs.declared.op.Op.TheVariants.{Store, Put, Share, Freeze, Kill}
-use Rattle.k_types.specs.declared.event.Fault.{Fault}
-use Rattle.k_types.specs.declared.event.Fault.TheVariants.{Segv, NotPopulating, Taken}
-use Rattle.k_types.specs.declared.event.Event.{Event}
-use Rattle.k_types.specs.declared.event.Event.TheVariants.{Done, Ended, Absorbed as AbsorbedEvent, Closing}
-use Rattle.k_types.specs.Names.{heap_eq}
-use Rattle.k_types.specs.Totals.{total}
-use Rattle.k_types.specs.Trace.{Trace}
-use Rattle.k_types.specs.State.{State, register}
-use Rattle.k_types.specs.Owners.{owner_of, phase_of, is_absorbed}
-use Rattle.k_types.specs.Replies.{first_fault, faults, fault_where, at_base, is_unmade, is_populating}
-use Rattle.k_types.specs.Updates.{count_done, set_register, create, open_scan, set_phase, add_share, keep_objects, keep_exits, keep_shares, close_scan, clear_registers, end_process, turn_exits, close, set_max}
-use Rattle.k_types.specs.Effects.{step, effect, effect_unless, after_operation, after_store, after_put, after_freeze, after_end_of, after_ended, after_absorbed, after_closing}
-use Rattle.k_types.specs.Steps.{IsPossible, IsLegalHistory, state_after, is_live, has_sharer}
+use Rattle.k_laws.specs.k_types.declared.names.Name.{Name}
+use Rattle.k_laws.specs.k_types.declared.names.Heap.{Heap}
+use Rattle.k_laws.specs.k_types.declared.names.Heap.TheVariants.{Shared}
+use Rattle.k_laws.specs.k_types.declared.names.Phase.{Phase}
+use Rattle.k_laws.specs.k_types.declared.names.Phase.TheVariants.{Unmade, Populating, Frozen, Absorbed}
+use Rattle.k_laws.specs.k_types.declared.op.Op.{Op}
+use Rattle.k_laws.specs.k_types.declared.op.Op.TheVariants.{Store, Put, Share, Freeze, Kill}
+use Rattle.k_laws.specs.k_types.declared.event.Fault.{Fault}
+use Rattle.k_laws.specs.k_types.declared.event.Fault.TheVariants.{Segv, NotPopulating, Taken}
+use Rattle.k_laws.specs.k_types.declared.event.Event.{Event}
+use Rattle.k_laws.specs.k_types.declared.event.Event.TheVariants.{Done, Ended, Absorbed as AbsorbedEvent, Closing}
+use Rattle.k_laws.specs.k_types.Names.{heap_eq}
+use Rattle.k_laws.specs.k_types.Totals.{total}
+use Rattle.k_laws.specs.k_types.Trace.{Trace}
+use Rattle.k_laws.specs.k_types.State.{State, register}
+use Rattle.k_laws.specs.k_types.Owners.{owner_of, phase_of, is_absorbed}
+use Rattle.k_laws.specs.k_types.Replies.{first_fault, faults, fault_where, at_base, is_unmade, is_populating}
+use Rattle.k_laws.specs.k_types.Updates.{count_done, set_register, create, open_scan, set_phase, add_share, keep_objects, keep_exits, keep_shares, close_scan, clear_registers, end_process, turn_exits, close, set_max}
+use Rattle.k_laws.specs.k_types.Effects.{step, effect, effect_unless, after_operation, after_store, after_put, after_freeze, after_end_of, after_ended, after_absorbed, after_closing}
+use Rattle.k_laws.specs.k_types.Steps.{IsPossible, IsLegalHistory, state_after, is_live, has_sharer}
 use Rattle.k_bounds.specs.Counts.{one_if, is_absorption, absorbed_count, is_closing_event, closing_count}
 use Rattle.k_bounds.proofs.Counting.{count_low}
 use Rattle.k_bounds.proofs.Phases.{store_phases, put_phases, ended_phases, closing_phases}
@@ -29,7 +29,7 @@ use Rattle.k_laws.proofs.Histories.{history_induction, state_next}
 use Rattle.k_laws.proofs.Sizes.{history_sized}
 use Rattle.k_laws.proofs.SoundEffects.{is_unmade_so, is_populating_by}
 use Rattle.k_laws.proofs.Rest.{store_rest, put_rest, freeze_rest, kill_rest}
-use Rattle.k_base.proofs.Sums.{total_push, total_set}
+use Rattle.k_laws.proofs.Sums.{total_push, total_set}
 
 abbrev gone : Phase → ℕ
 gone phase = one_if (is_absorbed phase)

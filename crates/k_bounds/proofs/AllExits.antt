@@ -1,25 +1,25 @@
 -- No history has more exit items than stores.
 use Rattle.std.proofs.Common.{◌≡◌, ℕ, ◌+◌, ◌≤◌, Bool, true, false, cond, refl, List, [], ◌∷◌, ◌++◌, length, Option, Some, None, arith, le_refl, zero-le}
-use Rattle.k_types.specs.declared.names.Name.{Name}
-use Rattle.k_types.specs.declared.names.Heap.{Heap}
-use Rattle.k_types.specs.declared.names.Heap.TheVariants.{Kernel, Shared, User}
-use Rattle.k_types.specs.declared.op.Op.{Op}
-use Rattle.k_types.specs.declared.op.Op.TheVariants.{Store, Put, Freeze, Exit, Kill}
-use Rattle.k_types.specs.declared.event.Fault.{Fault}
-use Rattle.k_types.specs.declared.event.Event.{Event}
-use Rattle.k_types.specs.declared.event.Event.TheVariants.{Done, Ended, Absorbed, Closing}
-use Rattle.k_types.specs.Names.{heap_eq, among}
-use Rattle.k_types.specs.Totals.{total}
-use Rattle.k_types.specs.Trace.{Trace}
-use Rattle.k_types.specs.State.{State, ExitItem, opening, has_exit, register}
-use Rattle.k_types.specs.Owners.{owner_of, user}
-use Rattle.k_types.specs.Replies.{first_fault, faults}
-use Rattle.k_types.specs.Updates.{count_done, set_register, create, write, add_exit, with_exit, open_scan, set_phase, add_share, keep_objects, keep_exits, keep_shares, close_scan, clear_registers, end_process, turn_exits, close, set_max}
-use Rattle.k_types.specs.Effects.{step, effect, effect_unless, after_operation, after_store, after_put, with_exit_of_store, after_freeze, after_end_of, exit_after, passes_to_kernel, leads_back, after_ended, after_absorbed, after_closing, exit_stays, stays_after_absorb, after_kill}
-use Rattle.k_types.specs.Steps.{run, state_after}
+use Rattle.k_laws.specs.k_types.declared.names.Name.{Name}
+use Rattle.k_laws.specs.k_types.declared.names.Heap.{Heap}
+use Rattle.k_laws.specs.k_types.declared.names.Heap.TheVariants.{Kernel, Shared, User}
+use Rattle.k_laws.specs.k_types.declared.op.Op.{Op}
+use Rattle.k_laws.specs.k_types.declared.op.Op.TheVariants.{Store, Put, Freeze, Exit, Kill}
+use Rattle.k_laws.specs.k_types.declared.event.Fault.{Fault}
+use Rattle.k_laws.specs.k_types.declared.event.Event.{Event}
+use Rattle.k_laws.specs.k_types.declared.event.Event.TheVariants.{Done, Ended, Absorbed, Closing}
+use Rattle.k_laws.specs.k_types.Names.{heap_eq, among}
+use Rattle.k_laws.specs.k_types.Totals.{total}
+use Rattle.k_laws.specs.k_types.Trace.{Trace}
+use Rattle.k_laws.specs.k_types.State.{State, ExitItem, opening, has_exit, register}
+use Rattle.k_laws.specs.k_types.Owners.{owner_of, user}
+use Rattle.k_laws.specs.k_types.Replies.{first_fault, faults}
+use Rattle.k_laws.specs.k_types.Updates.{count_done, set_register, create, write, add_exit, with_exit, open_scan, set_phase, add_share, keep_objects, keep_exits, keep_shares, close_scan, clear_registers, end_process, turn_exits, close, set_max}
+use Rattle.k_laws.specs.k_types.Effects.{step, effect, effect_unless, after_operation, after_store, after_put, with_exit_of_store, after_freeze, after_end_of, exit_after, passes_to_kernel, leads_back, after_ended, after_absorbed, after_closing, exit_stays, stays_after_absorb, after_kill}
+use Rattle.k_laws.specs.k_types.Steps.{run, state_after}
 use Rattle.k_bounds.specs.Counts.{one_if, is_store, has_stored, store_count, exit_count}
 use Rattle.k_bounds.proofs.Counting.{total_turned, total_fewer, option_count, one_if_low}
-use Rattle.k_base.proofs.Sums.{total_push, ones, sum_both, total_at_most}
+use Rattle.k_laws.proofs.Sums.{total_push, ones, sum_both, total_at_most}
 
 -- each exit item counts
 abbrev one : ExitItem → ℕ

@@ -2,20 +2,20 @@
 use Rattle.std.proofs.Common.{◌≡◌, ℕ, ◌+◌, ◌≤◌, ◌==◌, Bool, true, false, cond, refl, sym, ap, ◌∙◌, List, [], ◌∷◌, ◌++◌, length, arith, subst, zero, suc, take, drop, get_or, ap₂}
 use Rattle.std.proofs.lemmas.Bool.{false≢true}
 use Rattle.std.proofs.lemmas.Bool.Decides.{nat_tests}
-use Rattle.k_types.specs.declared.op.Op.{Op}
-use Rattle.k_types.specs.declared.event.Event.{Event}
-use Rattle.k_types.specs.declared.event.Event.TheVariants.{Done, Ended, Absorbed, Closing}
-use Rattle.k_types.specs.Totals.{total}
-use Rattle.k_types.specs.Numbers.{numbers_below}
-use Rattle.k_types.specs.Trace.{Trace, process_count, operations_of}
-use Rattle.k_types.specs.State.{State, opening}
-use Rattle.k_types.specs.Effects.{step}
-use Rattle.k_types.specs.Steps.{IsRun, IsLegalHistory, done_by, state_after}
-use Rattle.k_types.specs.Complete.{IsPrefixOf}
-use Rattle.k_types.specs.Following.{FollowsOwn}
+use Rattle.k_laws.specs.k_types.declared.op.Op.{Op}
+use Rattle.k_laws.specs.k_types.declared.event.Event.{Event}
+use Rattle.k_laws.specs.k_types.declared.event.Event.TheVariants.{Done, Ended, Absorbed, Closing}
+use Rattle.k_laws.specs.k_types.Totals.{total}
+use Rattle.k_laws.specs.k_types.Numbers.{numbers_below}
+use Rattle.k_laws.specs.k_types.Trace.{Trace, process_count, operations_of}
+use Rattle.k_laws.specs.k_types.State.{State, opening}
+use Rattle.k_laws.specs.k_types.Effects.{step}
+use Rattle.k_laws.specs.k_types.Steps.{IsRun, IsLegalHistory, done_by, state_after}
+use Rattle.k_laws.specs.k_types.Complete.{IsPrefixOf}
+use Rattle.k_laws.specs.k_types.Following.{FollowsOwn}
 use Rattle.k_bounds.specs.Counts.{one_if, of_operation, is_store, store_count, stores_by, operation_count, allocation_count, allocates_in, has_stored, has_allocated_in, is_operation}
 use Rattle.k_bounds.proofs.Dones.{done_count}
-use Rattle.k_base.proofs.Sums.{sum_same, sum_both, one_counts, total_append, zeros, ones}
+use Rattle.k_laws.proofs.Sums.{sum_same, sum_both, one_counts, total_append, zeros, ones}
 
 -- of the first elements no more is counted than of all
 pub prefix_less : {A : Type 0} (f : A → ℕ) (xs ys : List A) → IsPrefixOf xs ys → total f xs ≤ total f ys

@@ -1,7 +1,7 @@
 -- Counts over lists.
 use Rattle.std.proofs.Common.{◌≡◌, ℕ, ◌+◌, ◌≤◌, Bool, true, false, cond, refl, List, [], ◌∷◌, filter, filter_map, length, Option, Some, None, arith, zero-le}
 use Rattle.std.specs.List.{cons_option}
-use Rattle.k_types.specs.Totals.{total}
+use Rattle.k_laws.specs.k_types.Totals.{total}
 use Rattle.k_bounds.specs.Counts.{one_if}
 
 pub one_if_low : (b : Bool) → one_if b ≤ 1

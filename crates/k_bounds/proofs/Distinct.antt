@@ -1,21 +1,21 @@
 -- Sums over distinct names.
 use Rattle.std.proofs.Common.{◌≡◌, ℕ, zero, suc, ◌+◌, ◌*◌, ◌≤◌, Bool, true, false, cond, refl, ap, ap₂, sym, ◌∙◌, inl, inr, List, [], ◌∷◌, length, Option, Some, None, arith, IsTrue, get_or, zero-le}
 use Rattle.std.proofs.lemmas.Bool.{false≢true, cases_lt, cases_Bool, false_from_ne_true, and_from, or_left, or_right}
-use Rattle.k_types.specs.declared.names.Name.{Name}
-use Rattle.k_types.specs.declared.names.Heap.{Heap}
-use Rattle.k_types.specs.Names.{name_eq, heap_eq, name_among, leads_to}
-use Rattle.k_types.specs.Totals.{total}
-use Rattle.k_types.specs.Numbers.{numbers_below}
-use Rattle.k_types.specs.Trace.{Trace, process_count}
-use Rattle.k_types.specs.State.{State, ExitItem, has_exit}
-use Rattle.k_types.specs.Owners.{owner_of, user}
-use Rattle.k_types.specs.Cells.{entries, pins, pins_of}
-use Rattle.k_types.specs.Sound.{IsSized, AreDistinctExits}
+use Rattle.k_laws.specs.k_types.declared.names.Name.{Name}
+use Rattle.k_laws.specs.k_types.declared.names.Heap.{Heap}
+use Rattle.k_laws.specs.k_types.Names.{name_eq, heap_eq, name_among, leads_to}
+use Rattle.k_laws.specs.k_types.Totals.{total}
+use Rattle.k_laws.specs.k_types.Numbers.{numbers_below}
+use Rattle.k_laws.specs.k_types.Trace.{Trace, process_count}
+use Rattle.k_laws.specs.k_types.State.{State, ExitItem, has_exit}
+use Rattle.k_laws.specs.k_types.Owners.{owner_of, user}
+use Rattle.k_laws.specs.k_types.Cells.{entries, pins, pins_of}
+use Rattle.k_laws.specs.k_types.Sound.{IsSized, AreDistinctExits}
 use Rattle.k_bounds.specs.Counts.{one_if}
 use Rattle.k_bounds.specs.Distinct.{AreDistinctNames}
-use Rattle.k_base.proofs.NameTests.{name_eq-true, name_eq_refl, heap_eq-true}
-use Rattle.k_base.proofs.Sums.{zeros, sum_both, sum_same, total_at_most, ones, both_or}
-use Rattle.k_base.proofs.Lists.{numbers_length}
+use Rattle.k_laws.proofs.NameTests.{name_eq-true, name_eq_refl, heap_eq-true}
+use Rattle.k_laws.proofs.Sums.{zeros, sum_both, sum_same, total_at_most, ones, both_or}
+use Rattle.k_laws.proofs.Lists.{numbers_length}
 
 -- the sums of a table by rows and by columns
 swapped : {A B : Type 0} (f : A → B → ℕ) (xs : List A) (ys : List B) → total (λ x. total (f x) ys) xs ≡ total (λ y. total (λ x. f x y) xs) ys

@@ -2,24 +2,24 @@
 use Rattle.std.proofs.Common.{◌≡◌, ℕ, ◌+◌, ◌*◌, ◌≤◌, ◌<◌, ◌==◌, Bool, true, false, cond, refl, ap, sym, ◌∙◌, inl, inr, List, [], ◌∷◌, ◌++◌, length, set, arith, eq-eqb, ne_eqb, get_or, get_or-set_same, get_or-set_other}
 use Rattle.std.proofs.lemmas.Bool.{cases_eq}
 use Rattle.std.proofs.lemmas.List.{length-append}
-use Rattle.k_types.specs.declared.names.Pid.{Pid}
-use Rattle.k_types.specs.declared.names.Heap.{Heap}
-use Rattle.k_types.specs.declared.op.Op.{Op}
-use Rattle.k_types.specs.declared.event.Event.{Event}
-use Rattle.k_types.specs.declared.event.Event.TheVariants.{Done, Ended, Absorbed, Closing}
-use Rattle.k_types.specs.TraceRules.{AreLimits}
-use Rattle.k_types.specs.Trace.{Trace, process_count}
-use Rattle.k_types.specs.State.{State, opening}
-use Rattle.k_types.specs.Replies.{first_fault, faults}
-use Rattle.k_types.specs.Updates.{count_done, open_scan, set_phase, keep_objects, keep_exits, keep_shares, close_scan, close}
-use Rattle.k_types.specs.Effects.{step, after_operation, after_ended, after_absorbed, after_closing}
-use Rattle.k_types.specs.Steps.{IsPossible, IsLegalHistory, run, state_after, done_by}
+use Rattle.k_laws.specs.k_types.declared.names.Pid.{Pid}
+use Rattle.k_laws.specs.k_types.declared.names.Heap.{Heap}
+use Rattle.k_laws.specs.k_types.declared.op.Op.{Op}
+use Rattle.k_laws.specs.k_types.declared.event.Event.{Event}
+use Rattle.k_laws.specs.k_types.declared.event.Event.TheVariants.{Done, Ended, Absorbed, Closing}
+use Rattle.k_laws.specs.k_types.TraceRules.{AreLimits}
+use Rattle.k_laws.specs.k_types.Trace.{Trace, process_count}
+use Rattle.k_laws.specs.k_types.State.{State, opening}
+use Rattle.k_laws.specs.k_types.Replies.{first_fault, faults}
+use Rattle.k_laws.specs.k_types.Updates.{count_done, open_scan, set_phase, keep_objects, keep_exits, keep_shares, close_scan, close}
+use Rattle.k_laws.specs.k_types.Effects.{step, after_operation, after_ended, after_absorbed, after_closing}
+use Rattle.k_laws.specs.k_types.Steps.{IsPossible, IsLegalHistory, run, state_after, done_by}
 use Rattle.k_bounds.specs.Counts.{one_if, operation_count, is_operation, ended_count, is_end, absorbed_count, is_absorption, closing_count, is_closing_event, begun_count, has_begun, begins_collection}
 use Rattle.k_bounds.proofs.Counting.{one_if_low}
 use Rattle.k_bounds.proofs.AbsorbedCounts.{absorbed_at_most, closings}
 use Rattle.k_bounds.proofs.ScanCounts.{collections_balance}
 use Rattle.k_laws.proofs.Histories.{history_induction, state_next, done_append}
-use Rattle.k_base.proofs.Lists.{get_or-set_cases}
+use Rattle.k_laws.proofs.Lists.{get_or-set_cases}
 use Rattle.k_laws.proofs.Sizes.{history_sized, zeros_at}
 use Rattle.k_laws.proofs.Effects.{unless_done}
 

@@ -1,34 +1,34 @@
 -- The exit items of a user heap are at most the stores of its process, and those of a shared heap at most the stores of its maker.
 use Rattle.std.proofs.Common.{◌≡◌, ℕ, ◌+◌, ◌≤◌, ◌⊎◌, refl, sym, ap, ◌∙◌, inl, inr, List, [], ◌∷◌, ◌++◌, Option, Some, None, arith, eqb-true, eq-eqb, IsTrue, IsFalse, le_refl, zero-le}
 use Rattle.std.proofs.lemmas.Bool.{cases_Bool, not-false}
-use Rattle.k_types.specs.declared.names.Name.{Name}
-use Rattle.k_types.specs.declared.names.Pid.{Pid}
-use Rattle.k_types.specs.declared.names.Reg.{Reg}
-use Rattle.k_types.specs.declared.names.Heap.{Heap}
-use Rattle.k_types.specs.declared.names.Heap.TheVariants.{Kernel}
-use Rattle.k_types.specs.declared.op.Op.{Op}
-use Rattle.k_types.specs.declared.op.Op.TheVariants.{Store}
-use Rattle.k_types.specs.declared.event.Fault.{Fault}
-use Rattle.k_types.specs.declared.event.Fault.TheVariants.{Foreign, NoField, WrongKind, Frozen as FrozenFault}
-use Rattle.k_types.specs.declared.event.Reply.{Reply}
-use Rattle.k_types.specs.declared.event.Event.{Event}
-use Rattle.k_types.specs.declared.event.Event.TheVariants.{Done, Ended, Absorbed as AbsorbedEvent, Closing}
-use Rattle.k_types.specs.Names.{heap_eq}
-use Rattle.k_types.specs.Trace.{Trace}
-use Rattle.k_types.specs.State.{State, register, in_registers}
-use Rattle.k_types.specs.Owners.{owner_of, user}
-use Rattle.k_types.specs.Replies.{first_fault, faults, at_base, store_faults, access_faults, is_foreign, sharer_fault, is_frozen_heap}
-use Rattle.k_types.specs.Updates.{count_done, keep_objects, keep_exits, keep_shares, close_scan, set_phase, open_scan, close}
-use Rattle.k_types.specs.Effects.{step, effect_unless, after_operation, after_ended, after_absorbed, after_closing, exit_stays, stays_after_absorb}
-use Rattle.k_types.specs.Steps.{IsPossible, IsLegalHistory, state_after, done_by}
+use Rattle.k_laws.specs.k_types.declared.names.Name.{Name}
+use Rattle.k_laws.specs.k_types.declared.names.Pid.{Pid}
+use Rattle.k_laws.specs.k_types.declared.names.Reg.{Reg}
+use Rattle.k_laws.specs.k_types.declared.names.Heap.{Heap}
+use Rattle.k_laws.specs.k_types.declared.names.Heap.TheVariants.{Kernel}
+use Rattle.k_laws.specs.k_types.declared.op.Op.{Op}
+use Rattle.k_laws.specs.k_types.declared.op.Op.TheVariants.{Store}
+use Rattle.k_laws.specs.k_types.declared.event.Fault.{Fault}
+use Rattle.k_laws.specs.k_types.declared.event.Fault.TheVariants.{Foreign, NoField, WrongKind, Frozen as FrozenFault}
+use Rattle.k_laws.specs.k_types.declared.event.Reply.{Reply}
+use Rattle.k_laws.specs.k_types.declared.event.Event.{Event}
+use Rattle.k_laws.specs.k_types.declared.event.Event.TheVariants.{Done, Ended, Absorbed as AbsorbedEvent, Closing}
+use Rattle.k_laws.specs.k_types.Names.{heap_eq}
+use Rattle.k_laws.specs.k_types.Trace.{Trace}
+use Rattle.k_laws.specs.k_types.State.{State, register, in_registers}
+use Rattle.k_laws.specs.k_types.Owners.{owner_of, user}
+use Rattle.k_laws.specs.k_types.Replies.{first_fault, faults, at_base, store_faults, access_faults, is_foreign, sharer_fault, is_frozen_heap}
+use Rattle.k_laws.specs.k_types.Updates.{count_done, keep_objects, keep_exits, keep_shares, close_scan, set_phase, open_scan, close}
+use Rattle.k_laws.specs.k_types.Effects.{step, effect_unless, after_operation, after_ended, after_absorbed, after_closing, exit_stays, stays_after_absorb}
+use Rattle.k_laws.specs.k_types.Steps.{IsPossible, IsLegalHistory, state_after, done_by}
 use Rattle.k_bounds.specs.Counts.{one_if, exit_count, is_store, stores_in, stores_by}
 use Rattle.k_bounds.proofs.Counting.{total_fewer, one_if_low}
 use Rattle.k_bounds.proofs.ExitCounts.{weight, writes_to, stores_to, effect_exits}
-use Rattle.k_base.proofs.NameTests.{heap_eq-true}
+use Rattle.k_laws.proofs.NameTests.{heap_eq-true}
 use Rattle.k_laws.proofs.FrameSteps.{none_on, none_first}
 use Rattle.k_laws.proofs.Histories.{history_induction, state_next, done_append}
 use Rattle.k_laws.proofs.SoundStore.{register_holds}
-use Rattle.k_base.proofs.Sums.{total_append}
+use Rattle.k_laws.proofs.Sums.{total_append}
 
 -- a store into an object of the heap, which the store's tests let pass
 pub record StoresInto (trace : Trace) (st : State) (h : Heap) (pid : Pid) (op : Op) : Type 0 where

@@ -1,19 +1,19 @@
 -- How many exit items a heap has after an event.
 use Rattle.std.proofs.Common.{ℕ, ◌+◌, ◌≤◌, Bool, true, false, cond, [], ◌∷◌, ◌++◌, Option, Some, None, arith, IsFalse, le_refl, zero-le}
-use Rattle.k_types.specs.declared.names.Name.{Name}
-use Rattle.k_types.specs.declared.names.Heap.{Heap}
-use Rattle.k_types.specs.declared.names.Heap.TheVariants.{Kernel}
-use Rattle.k_types.specs.declared.op.Op.{Op}
-use Rattle.k_types.specs.declared.op.Op.TheVariants.{Store, Put, Freeze, Exit, Kill}
-use Rattle.k_types.specs.Names.{heap_eq, among}
-use Rattle.k_types.specs.Trace.{Trace}
-use Rattle.k_types.specs.State.{State, ExitItem, has_exit, register}
-use Rattle.k_types.specs.Owners.{owner_of, user}
-use Rattle.k_types.specs.Updates.{set_register, create, write, add_exit, with_exit, open_scan, set_phase, add_share, keep_shares, clear_registers, end_process, turn_exits, set_max}
-use Rattle.k_types.specs.Effects.{effect, after_store, after_put, with_exit_of_store, after_freeze, after_end_of, exit_after, passes_to_kernel, leads_back, after_kill}
+use Rattle.k_laws.specs.k_types.declared.names.Name.{Name}
+use Rattle.k_laws.specs.k_types.declared.names.Heap.{Heap}
+use Rattle.k_laws.specs.k_types.declared.names.Heap.TheVariants.{Kernel}
+use Rattle.k_laws.specs.k_types.declared.op.Op.{Op}
+use Rattle.k_laws.specs.k_types.declared.op.Op.TheVariants.{Store, Put, Freeze, Exit, Kill}
+use Rattle.k_laws.specs.k_types.Names.{heap_eq, among}
+use Rattle.k_laws.specs.k_types.Trace.{Trace}
+use Rattle.k_laws.specs.k_types.State.{State, ExitItem, has_exit, register}
+use Rattle.k_laws.specs.k_types.Owners.{owner_of, user}
+use Rattle.k_laws.specs.k_types.Updates.{set_register, create, write, add_exit, with_exit, open_scan, set_phase, add_share, keep_shares, clear_registers, end_process, turn_exits, set_max}
+use Rattle.k_laws.specs.k_types.Effects.{effect, after_store, after_put, with_exit_of_store, after_freeze, after_end_of, exit_after, passes_to_kernel, leads_back, after_kill}
 use Rattle.k_bounds.specs.Counts.{one_if, exit_count}
 use Rattle.k_bounds.proofs.Counting.{total_turned, option_count}
-use Rattle.k_base.proofs.Sums.{total_push}
+use Rattle.k_laws.proofs.Sums.{total_push}
 
 abbrev pub weight : Heap → ExitItem → ℕ
 weight h e = one_if (heap_eq e.heap h)

@@ -1,21 +1,21 @@
 -- The laws of this crate, one lemma a clause under the law's name, for the crates above to cite.
 use Rattle.std.specs.Prelude.{List, if◌then◌else◌, length, slice_index_or, ◌*◌, ◌+◌, ◌==◌, ◌≡◌, ◌≤◌, ◌⊎◌, ℕ, ◌↔◌}
-use Rattle.k_types.specs.Cells.{entries, pins}
-use Rattle.k_types.specs.Complete.{IsPrefixOf}
-use Rattle.k_types.specs.Following.{FollowsOwn}
-use Rattle.k_types.specs.Names.{heap_eq, name_among}
-use Rattle.k_types.specs.Numbers.{numbers_below}
-use Rattle.k_types.specs.Owners.{shared, user}
-use Rattle.k_types.specs.Sound.{AreDistinctExits}
-use Rattle.k_types.specs.State.{ExitItem, has_exit}
-use Rattle.k_types.specs.Steps.{IsLegalHistory, done_by, state_after}
-use Rattle.k_types.specs.Totals.{total}
-use Rattle.k_types.specs.Trace.{Trace, process_count, operations_of}
-use Rattle.k_types.specs.TraceRules.{AreLimits}
-use Rattle.k_types.specs.declared.event.Event.{Event}
-use Rattle.k_types.specs.declared.names.Heap.{Heap}
-use Rattle.k_types.specs.declared.names.Name.{Name}
-use Rattle.k_types.specs.declared.op.Op.{Op}
+use Rattle.k_laws.specs.k_types.Cells.{entries, pins}
+use Rattle.k_laws.specs.k_types.Complete.{IsPrefixOf}
+use Rattle.k_laws.specs.k_types.Following.{FollowsOwn}
+use Rattle.k_laws.specs.k_types.Names.{heap_eq, name_among}
+use Rattle.k_laws.specs.k_types.Numbers.{numbers_below}
+use Rattle.k_laws.specs.k_types.Owners.{shared, user}
+use Rattle.k_laws.specs.k_types.Sound.{AreDistinctExits}
+use Rattle.k_laws.specs.k_types.State.{ExitItem, has_exit}
+use Rattle.k_laws.specs.k_types.Steps.{IsLegalHistory, done_by, state_after}
+use Rattle.k_laws.specs.k_types.Totals.{total}
+use Rattle.k_laws.specs.k_types.Trace.{Trace, process_count, operations_of}
+use Rattle.k_laws.specs.k_types.TraceRules.{AreLimits}
+use Rattle.k_laws.specs.k_types.declared.event.Event.{Event}
+use Rattle.k_laws.specs.k_types.declared.names.Heap.{Heap}
+use Rattle.k_laws.specs.k_types.declared.names.Name.{Name}
+use Rattle.k_laws.specs.k_types.declared.op.Op.{Op}
 use Rattle.k_bounds.proofs.AbsorbedCounts.{absorbed_at_most, closings}
 use Rattle.k_bounds.proofs.AllExits.{exits_at_most_stores}
 use Rattle.k_bounds.proofs.ByProcess.{stores_by_process, operations_by_process, allocations_by_process, prefix_less, follows_own, first_of}

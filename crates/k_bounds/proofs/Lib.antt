@@ -15,3 +15,9 @@ pub mod Laws
 pub use Rattle.k_laws.proofs.SoundOpening
 pub use Rattle.k_laws.proofs.SoundSteps
 pub use Rattle.k_laws.proofs.SoundStore
+pub use Rattle.k_laws.proofs.Exits
+pub use Rattle.k_laws.proofs.Elsewhere
+pub use Rattle.k_laws.proofs.FrameLaws
+pub use Rattle.k_laws.proofs.LocalEffects
+pub use Rattle.k_laws.proofs.Closure
+pub use Rattle.k_laws.proofs.Laws as LawsLaws

@@ -1,21 +1,21 @@
 -- The objects that are there are at most the allocations, and one more for the directory.
 use Rattle.std.proofs.Common.{◌≡◌, ℕ, suc, ◌+◌, ◌≤◌, Bool, true, false, cond, refl, ap, List, [], ◌∷◌, length, filter, Option, Some, None, arith}
-use Rattle.k_types.specs.declared.names.Name.{Name}
-use Rattle.k_types.specs.declared.names.TypeId.{TypeId}
-use Rattle.k_types.specs.declared.names.Heap.TheVariants.{Kernel, Shared}
-use Rattle.k_types.specs.declared.op.Op.{Op}
-use Rattle.k_types.specs.declared.op.Op.TheVariants.{New, KNew, SNew, Store, Put, Freeze, Kill}
-use Rattle.k_types.specs.declared.event.Fault.{Fault}
-use Rattle.k_types.specs.declared.event.Event.{Event}
-use Rattle.k_types.specs.declared.event.Event.TheVariants.{Done, Ended, Absorbed, Closing}
-use Rattle.k_types.specs.Names.{name_lt}
-use Rattle.k_types.specs.Trace.{Trace, segment_of}
-use Rattle.k_types.specs.State.{State, Object, opening, register}
-use Rattle.k_types.specs.Owners.{user}
-use Rattle.k_types.specs.Replies.{first_fault, faults}
-use Rattle.k_types.specs.Updates.{count_done, set_register, create, with_object, open_scan, set_phase, add_share, keep_objects, keep_exits, keep_shares, close_scan, clear_registers, end_process, turn_exits, close, set_max}
-use Rattle.k_types.specs.Effects.{step, survives, effect, effect_unless, after_new, after_operation, after_freeze, after_end_of, after_ended, after_absorbed, after_closing}
-use Rattle.k_types.specs.Steps.{run, state_after}
+use Rattle.k_laws.specs.k_types.declared.names.Name.{Name}
+use Rattle.k_laws.specs.k_types.declared.names.TypeId.{TypeId}
+use Rattle.k_laws.specs.k_types.declared.names.Heap.TheVariants.{Kernel, Shared}
+use Rattle.k_laws.specs.k_types.declared.op.Op.{Op}
+use Rattle.k_laws.specs.k_types.declared.op.Op.TheVariants.{New, KNew, SNew, Store, Put, Freeze, Kill}
+use Rattle.k_laws.specs.k_types.declared.event.Fault.{Fault}
+use Rattle.k_laws.specs.k_types.declared.event.Event.{Event}
+use Rattle.k_laws.specs.k_types.declared.event.Event.TheVariants.{Done, Ended, Absorbed, Closing}
+use Rattle.k_laws.specs.k_types.Names.{name_lt}
+use Rattle.k_laws.specs.k_types.Trace.{Trace, segment_of}
+use Rattle.k_laws.specs.k_types.State.{State, Object, opening, register}
+use Rattle.k_laws.specs.k_types.Owners.{user}
+use Rattle.k_laws.specs.k_types.Replies.{first_fault, faults}
+use Rattle.k_laws.specs.k_types.Updates.{count_done, set_register, create, with_object, open_scan, set_phase, add_share, keep_objects, keep_exits, keep_shares, close_scan, clear_registers, end_process, turn_exits, close, set_max}
+use Rattle.k_laws.specs.k_types.Effects.{step, survives, effect, effect_unless, after_new, after_operation, after_freeze, after_end_of, after_ended, after_absorbed, after_closing}
+use Rattle.k_laws.specs.k_types.Steps.{run, state_after}
 use Rattle.k_bounds.specs.Counts.{one_if, is_allocation, has_allocated, allocations}
 use Rattle.k_laws.proofs.Rest.{freeze_rest, kill_rest}
 use Rattle.k_laws.proofs.Effects.{stored_length, put_length}

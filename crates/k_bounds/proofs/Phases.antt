@@ -2,23 +2,23 @@
 use Rattle.std.proofs.Common.{◌≡◌, ℕ, ◌==◌, not, false, refl, sym, ap, ◌∙◌, inl, inr, List, [], ◌∷◌, Option, Some, None, eq-eqb, IsTrue}
 use Rattle.std.specs.List.{list_any}
 use Rattle.std.proofs.lemmas.Bool.{not-false, or_left}
-use Rattle.k_types.specs.declared.names.Pid.{Pid}
-use Rattle.k_types.specs.declared.names.Name.{Name}
-use Rattle.k_types.specs.declared.names.Heap.{Heap}
-use Rattle.k_types.specs.declared.names.Phase.{Phase}
-use Rattle.k_types.specs.declared.names.Phase.TheVariants.{Unmade, Populating, Frozen, Absorbed}
-use Rattle.k_types.specs.declared.op.Op.{Op}
-use Rattle.k_types.specs.declared.op.Op.TheVariants.{Store, Put, Share, Freeze, Kill}
-use Rattle.k_types.specs.declared.event.Fault.{Fault}
-use Rattle.k_types.specs.declared.event.Fault.TheVariants.{Taken as TakenFault}
-use Rattle.k_types.specs.Trace.{Trace}
-use Rattle.k_types.specs.State.{State, register}
-use Rattle.k_types.specs.Owners.{phase_of}
-use Rattle.k_types.specs.Replies.{first_fault, faults, is_unmade}
-use Rattle.k_types.specs.Updates.{count_done, set_register, create, open_scan, set_phase, add_share, keep_objects, keep_exits, keep_shares, close_scan, clear_registers, end_process, turn_exits, close, set_max}
-use Rattle.k_types.specs.Effects.{effect, effect_unless, after_operation, after_store, after_put, after_freeze, after_end_of, after_ended, after_absorbed, after_closing}
+use Rattle.k_laws.specs.k_types.declared.names.Pid.{Pid}
+use Rattle.k_laws.specs.k_types.declared.names.Name.{Name}
+use Rattle.k_laws.specs.k_types.declared.names.Heap.{Heap}
+use Rattle.k_laws.specs.k_types.declared.names.Phase.{Phase}
+use Rattle.k_laws.specs.k_types.declared.names.Phase.TheVariants.{Unmade, Populating, Frozen, Absorbed}
+use Rattle.k_laws.specs.k_types.declared.op.Op.{Op}
+use Rattle.k_laws.specs.k_types.declared.op.Op.TheVariants.{Store, Put, Share, Freeze, Kill}
+use Rattle.k_laws.specs.k_types.declared.event.Fault.{Fault}
+use Rattle.k_laws.specs.k_types.declared.event.Fault.TheVariants.{Taken as TakenFault}
+use Rattle.k_laws.specs.k_types.Trace.{Trace}
+use Rattle.k_laws.specs.k_types.State.{State, register}
+use Rattle.k_laws.specs.k_types.Owners.{phase_of}
+use Rattle.k_laws.specs.k_types.Replies.{first_fault, faults, is_unmade}
+use Rattle.k_laws.specs.k_types.Updates.{count_done, set_register, create, open_scan, set_phase, add_share, keep_objects, keep_exits, keep_shares, close_scan, clear_registers, end_process, turn_exits, close, set_max}
+use Rattle.k_laws.specs.k_types.Effects.{effect, effect_unless, after_operation, after_store, after_put, after_freeze, after_end_of, after_ended, after_absorbed, after_closing}
 use Rattle.k_bounds.specs.Counts.{is_share_of}
-use Rattle.k_base.proofs.Lists.{get_or-set_cases}
+use Rattle.k_laws.proofs.Lists.{get_or-set_cases}
 use Rattle.k_laws.proofs.FrameSteps.{none_on}
 use Rattle.k_laws.proofs.SoundEffects.{is_unmade_so}
 use Rattle.k_laws.proofs.Rest.{store_rest, put_rest, kill_rest}

@@ -1,29 +1,29 @@
 -- How many collections, absorptions and closings a history has.
 use Rattle.std.proofs.Common.{◌≡◌, ℕ, ◌+◌, not, cond, refl, ap, sym, ◌∙◌, inl, inr, List, [], ◌∷◌, ◌++◌, filter, find, length, Option, Some, None, option_map, arith, IsTrue}
 use Rattle.std.proofs.lemmas.Bool.{false≢true, cases_Bool}
-use Rattle.k_types.specs.declared.names.Name.{Name}
-use Rattle.k_types.specs.declared.names.Heap.{Heap}
-use Rattle.k_types.specs.declared.op.Op.{Op}
-use Rattle.k_types.specs.declared.op.Op.TheVariants.{Store, Put, Collect, KCollect, Freeze, Kill}
-use Rattle.k_types.specs.declared.event.Fault.{Fault}
-use Rattle.k_types.specs.declared.event.Event.{Event}
-use Rattle.k_types.specs.declared.event.Event.TheVariants.{Done, Ended, Absorbed as AbsorbedEvent, Closing}
-use Rattle.k_types.specs.Names.{heap_eq}
-use Rattle.k_types.specs.TraceRules.{AreLimits}
-use Rattle.k_types.specs.Trace.{Trace}
-use Rattle.k_types.specs.State.{State, Scan, register, scan_of}
-use Rattle.k_types.specs.Replies.{first_fault, faults}
-use Rattle.k_types.specs.Updates.{count_done, set_register, create, open_scan, set_phase, add_share, keep_objects, keep_exits, keep_shares, close_scan, clear_registers, end_process, turn_exits, close, set_max}
-use Rattle.k_types.specs.Effects.{step, effect, effect_unless, after_operation, after_store, after_put, after_freeze, after_end_of, after_ended, after_absorbed, after_closing}
-use Rattle.k_types.specs.Steps.{IsPossible, IsLegalHistory, state_after}
-use Rattle.k_types.specs.Sound.{IsSound, AreDistinctScans}
+use Rattle.k_laws.specs.k_types.declared.names.Name.{Name}
+use Rattle.k_laws.specs.k_types.declared.names.Heap.{Heap}
+use Rattle.k_laws.specs.k_types.declared.op.Op.{Op}
+use Rattle.k_laws.specs.k_types.declared.op.Op.TheVariants.{Store, Put, Collect, KCollect, Freeze, Kill}
+use Rattle.k_laws.specs.k_types.declared.event.Fault.{Fault}
+use Rattle.k_laws.specs.k_types.declared.event.Event.{Event}
+use Rattle.k_laws.specs.k_types.declared.event.Event.TheVariants.{Done, Ended, Absorbed as AbsorbedEvent, Closing}
+use Rattle.k_laws.specs.k_types.Names.{heap_eq}
+use Rattle.k_laws.specs.k_types.TraceRules.{AreLimits}
+use Rattle.k_laws.specs.k_types.Trace.{Trace}
+use Rattle.k_laws.specs.k_types.State.{State, Scan, register, scan_of}
+use Rattle.k_laws.specs.k_types.Replies.{first_fault, faults}
+use Rattle.k_laws.specs.k_types.Updates.{count_done, set_register, create, open_scan, set_phase, add_share, keep_objects, keep_exits, keep_shares, close_scan, clear_registers, end_process, turn_exits, close, set_max}
+use Rattle.k_laws.specs.k_types.Effects.{step, effect, effect_unless, after_operation, after_store, after_put, after_freeze, after_end_of, after_ended, after_absorbed, after_closing}
+use Rattle.k_laws.specs.k_types.Steps.{IsPossible, IsLegalHistory, state_after}
+use Rattle.k_laws.specs.k_types.Sound.{IsSound, AreDistinctScans}
 use Rattle.k_bounds.specs.Counts.{one_if, begins_collection, has_begun, begun_count, is_end, ended_count}
-use Rattle.k_base.proofs.NameTests.{heap_eq-true}
-use Rattle.k_base.proofs.Objects.{some_is}
+use Rattle.k_laws.proofs.NameTests.{heap_eq-true}
+use Rattle.k_laws.proofs.Objects.{some_is}
 use Rattle.k_laws.proofs.Histories.{history_induction, state_next}
 use Rattle.k_laws.proofs.SoundSteps.{legal_sound}
 use Rattle.k_laws.proofs.Rest.{store_rest, put_rest, freeze_rest, kill_rest}
-use Rattle.k_base.proofs.Sums.{total_push}
+use Rattle.k_laws.proofs.Sums.{total_push}
 
 module _ (trace : Trace) where
   store_scans : (st : State) (x : Option Name) (i : ℕ) (v : Option Name) → (after_store trace x i v st).scans ≡ st.scans

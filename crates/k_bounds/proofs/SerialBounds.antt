@@ -1,22 +1,22 @@
 -- The serials that a segment has given are at most its allocations, and one more in the kernel's for the directory.
 use Rattle.std.proofs.Common.{◌≡◌, ℕ, zero, suc, ◌+◌, ◌≤◌, ◌==◌, refl, ap, sym, ◌∙◌, inl, inr, List, [], ◌∷◌, get_or, length, Option, Some, None, arith, eq-eqb, ne_eqb}
-use Rattle.k_types.specs.declared.names.Name.{Name}
-use Rattle.k_types.specs.declared.names.TypeId.{TypeId}
-use Rattle.k_types.specs.declared.names.Heap.TheVariants.{Kernel, Shared}
-use Rattle.k_types.specs.declared.op.Op.{Op}
-use Rattle.k_types.specs.declared.op.Op.TheVariants.{New, KNew, SNew, Store, Put, Freeze, Kill}
-use Rattle.k_types.specs.declared.event.Fault.{Fault}
-use Rattle.k_types.specs.declared.event.Event.{Event}
-use Rattle.k_types.specs.declared.event.Event.TheVariants.{Done, Ended, Absorbed, Closing}
-use Rattle.k_types.specs.Trace.{Trace, segment_of}
-use Rattle.k_types.specs.State.{State, opening, register}
-use Rattle.k_types.specs.Owners.{user}
-use Rattle.k_types.specs.Replies.{first_fault, faults}
-use Rattle.k_types.specs.Updates.{count_done, set_register, create, open_scan, set_phase, add_share, keep_objects, keep_exits, keep_shares, close_scan, clear_registers, end_process, turn_exits, close, set_max}
-use Rattle.k_types.specs.Effects.{step, effect, effect_unless, after_new, after_operation, after_store, after_put, after_freeze, after_end_of, after_ended, after_absorbed, after_closing}
-use Rattle.k_types.specs.Steps.{run, state_after}
+use Rattle.k_laws.specs.k_types.declared.names.Name.{Name}
+use Rattle.k_laws.specs.k_types.declared.names.TypeId.{TypeId}
+use Rattle.k_laws.specs.k_types.declared.names.Heap.TheVariants.{Kernel, Shared}
+use Rattle.k_laws.specs.k_types.declared.op.Op.{Op}
+use Rattle.k_laws.specs.k_types.declared.op.Op.TheVariants.{New, KNew, SNew, Store, Put, Freeze, Kill}
+use Rattle.k_laws.specs.k_types.declared.event.Fault.{Fault}
+use Rattle.k_laws.specs.k_types.declared.event.Event.{Event}
+use Rattle.k_laws.specs.k_types.declared.event.Event.TheVariants.{Done, Ended, Absorbed, Closing}
+use Rattle.k_laws.specs.k_types.Trace.{Trace, segment_of}
+use Rattle.k_laws.specs.k_types.State.{State, opening, register}
+use Rattle.k_laws.specs.k_types.Owners.{user}
+use Rattle.k_laws.specs.k_types.Replies.{first_fault, faults}
+use Rattle.k_laws.specs.k_types.Updates.{count_done, set_register, create, open_scan, set_phase, add_share, keep_objects, keep_exits, keep_shares, close_scan, clear_registers, end_process, turn_exits, close, set_max}
+use Rattle.k_laws.specs.k_types.Effects.{step, effect, effect_unless, after_new, after_operation, after_store, after_put, after_freeze, after_end_of, after_ended, after_absorbed, after_closing}
+use Rattle.k_laws.specs.k_types.Steps.{run, state_after}
 use Rattle.k_bounds.specs.Counts.{one_if, allocates_in, has_allocated_in, allocation_count}
-use Rattle.k_base.proofs.Lists.{get_or-set_cases}
+use Rattle.k_laws.proofs.Lists.{get_or-set_cases}
 use Rattle.k_laws.proofs.Sizes.{zeros_at}
 use Rattle.k_laws.proofs.Rest.{store_rest, put_rest, freeze_rest, kill_rest}
 

@@ -3,23 +3,23 @@ use Rattle.std.proofs.Common.{◌≡◌, ◌≢◌, ℕ, ◌+◌, ◌≤◌, ◌
 use Rattle.std.specs.List.{list_any}
 use Rattle.std.proofs.lemmas.Bool.{false≢true, or_left, or_right}
 use Rattle.std.proofs.lemmas.List.Folds.{list_any-append}
-use Rattle.k_types.specs.declared.names.Pid.{Pid}
-use Rattle.k_types.specs.declared.names.Phase.{Phase}
-use Rattle.k_types.specs.declared.names.Phase.TheVariants.{Unmade, Populating, Frozen, Absorbed}
-use Rattle.k_types.specs.declared.op.Op.{Op}
-use Rattle.k_types.specs.declared.event.Fault.{Fault}
-use Rattle.k_types.specs.declared.event.Fault.TheVariants.{NotSharer}
-use Rattle.k_types.specs.declared.event.Reply.{Reply}
-use Rattle.k_types.specs.declared.event.Event.{Event}
-use Rattle.k_types.specs.declared.event.Event.TheVariants.{Done, Ended, Absorbed as AbsorbedEvent, Closing}
-use Rattle.k_types.specs.TraceRules.{AreLimits}
-use Rattle.k_types.specs.Trace.{Trace, process_count}
-use Rattle.k_types.specs.State.{State, has_share}
-use Rattle.k_types.specs.Owners.{shared, phase_of, is_absorbed}
-use Rattle.k_types.specs.Replies.{fault_where, is_frozen}
-use Rattle.k_types.specs.Effects.{step, after_operation}
-use Rattle.k_types.specs.Steps.{IsPossible, IsLegalHistory, state_after, done_by}
-use Rattle.k_types.specs.Sound.{IsSound}
+use Rattle.k_laws.specs.k_types.declared.names.Pid.{Pid}
+use Rattle.k_laws.specs.k_types.declared.names.Phase.{Phase}
+use Rattle.k_laws.specs.k_types.declared.names.Phase.TheVariants.{Unmade, Populating, Frozen, Absorbed}
+use Rattle.k_laws.specs.k_types.declared.op.Op.{Op}
+use Rattle.k_laws.specs.k_types.declared.event.Fault.{Fault}
+use Rattle.k_laws.specs.k_types.declared.event.Fault.TheVariants.{NotSharer}
+use Rattle.k_laws.specs.k_types.declared.event.Reply.{Reply}
+use Rattle.k_laws.specs.k_types.declared.event.Event.{Event}
+use Rattle.k_laws.specs.k_types.declared.event.Event.TheVariants.{Done, Ended, Absorbed as AbsorbedEvent, Closing}
+use Rattle.k_laws.specs.k_types.TraceRules.{AreLimits}
+use Rattle.k_laws.specs.k_types.Trace.{Trace, process_count}
+use Rattle.k_laws.specs.k_types.State.{State, has_share}
+use Rattle.k_laws.specs.k_types.Owners.{shared, phase_of, is_absorbed}
+use Rattle.k_laws.specs.k_types.Replies.{fault_where, is_frozen}
+use Rattle.k_laws.specs.k_types.Effects.{step, after_operation}
+use Rattle.k_laws.specs.k_types.Steps.{IsPossible, IsLegalHistory, state_after, done_by}
+use Rattle.k_laws.specs.k_types.Sound.{IsSound}
 use Rattle.k_bounds.specs.Counts.{exit_count, stores_in, stores_by, is_share_of, MadeBy}
 use Rattle.k_bounds.proofs.ExitBounds.{StoresInto, done_cases, ended_fewer, absorbed_fewer, closing_fewer, stores_more, own_store}
 use Rattle.k_bounds.proofs.Phases.{Phased, Stays, Taken, IsFrozen, IsAbsorbed, done_phases, absorbed_phases, ended_phases, closing_phases}

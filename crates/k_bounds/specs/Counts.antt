@@ -1,18 +1,18 @@
 -- What a history counts.
 use Rattle.std.specs.List.{list_any}
 use Rattle.std.specs.Prelude.{ℕ, ◌<◌, ◌≤◌, ◌==◌, IsTrue, Bool, true, false, List, if◌then◌else◌}
-use Rattle.k_types.specs.declared.names.Heap.{Heap}
-use Rattle.k_types.specs.declared.names.Heap.TheVariants.{Kernel, Shared}
-use Rattle.k_types.specs.declared.op.Op.{Op}
-use Rattle.k_types.specs.declared.op.Op.TheVariants.{New, KNew, SNew, Store, Collect, KCollect, Share}
-use Rattle.k_types.specs.declared.event.Event.{Event}
-use Rattle.k_types.specs.declared.event.Event.TheVariants.{Done, Ended, Absorbed, Closing}
-use Rattle.k_types.specs.Names.{heap_eq}
-use Rattle.k_types.specs.Totals.{total}
-use Rattle.k_types.specs.Trace.{Trace, process_count, segment_of}
-use Rattle.k_types.specs.State.{ExitItem}
-use Rattle.k_types.specs.Owners.{user}
-use Rattle.k_types.specs.Steps.{done_by}
+use Rattle.k_laws.specs.k_types.declared.names.Heap.{Heap}
+use Rattle.k_laws.specs.k_types.declared.names.Heap.TheVariants.{Kernel, Shared}
+use Rattle.k_laws.specs.k_types.declared.op.Op.{Op}
+use Rattle.k_laws.specs.k_types.declared.op.Op.TheVariants.{New, KNew, SNew, Store, Collect, KCollect, Share}
+use Rattle.k_laws.specs.k_types.declared.event.Event.{Event}
+use Rattle.k_laws.specs.k_types.declared.event.Event.TheVariants.{Done, Ended, Absorbed, Closing}
+use Rattle.k_laws.specs.k_types.Names.{heap_eq}
+use Rattle.k_laws.specs.k_types.Totals.{total}
+use Rattle.k_laws.specs.k_types.Trace.{Trace, process_count, segment_of}
+use Rattle.k_laws.specs.k_types.State.{ExitItem}
+use Rattle.k_laws.specs.k_types.Owners.{user}
+use Rattle.k_laws.specs.k_types.Steps.{done_by}
 
 -- 1 where the test holds, else 0
 abbrev pub one_if : Bool → ℕ

@@ -1,2 +1,3 @@
 pub mod Counts
-pub use Rattle.k_base.specs.Distinct
+pub use Rattle.k_laws.specs.k_base.Distinct
+pub use Rattle.k_laws.specs as k_laws

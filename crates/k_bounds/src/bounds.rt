@@ -15,14 +15,14 @@ ghost use Rattle.k_bounds.specs.Counts.{
   stores_by,
 };
 ghost use Rattle.k_bounds.specs.Distinct.{AreDistinctNames};
-ghost use Rattle.k_types.specs.Cells.{entries, pins};
-ghost use Rattle.k_types.specs.Owners.{shared, user};
-ghost use Rattle.k_types.specs.Steps.{IsLegalHistory, done_by, state_after};
-ghost use Rattle.k_types.specs.Totals.{total};
-ghost use Rattle.k_types.specs.Trace.{Trace, process_count};
-ghost use Rattle.k_types.specs.TraceRules.{AreLimits};
-ghost use Rattle.k_types.specs.declared.event.Event.{Event};
-ghost use Rattle.k_types.specs.declared.names.Name.{Name};
+ghost use Rattle.k_laws.specs.k_types.Cells.{entries, pins};
+ghost use Rattle.k_laws.specs.k_types.Owners.{shared, user};
+ghost use Rattle.k_laws.specs.k_types.Steps.{IsLegalHistory, done_by, state_after};
+ghost use Rattle.k_laws.specs.k_types.Totals.{total};
+ghost use Rattle.k_laws.specs.k_types.Trace.{Trace, process_count};
+ghost use Rattle.k_laws.specs.k_types.TraceRules.{AreLimits};
+ghost use Rattle.k_laws.specs.k_types.declared.event.Event.{Event};
+ghost use Rattle.k_laws.specs.k_types.declared.names.Name.{Name};
 
 /// All exit items together are at most the stores of the history. Those of a user heap are at most the stores of its process,
 /// and those of a shared heap at most the stores of one process that took it.

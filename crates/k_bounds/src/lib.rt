@@ -13,6 +13,7 @@ pub use bounds::{
     operations_done_are_those_of_the_history, pins_are_at_most_the_registers,
     serials_are_at_most_the_allocations,
 };
+pub use k_laws::{Event, Op, Pid};
 pub use processes::{
     first_operations_are_those_up_to_done, first_operations_count_less, histories_count_by_process,
 };

@@ -1,16 +1,16 @@
 //! The counts of a history, process by process.
 ghost use Rattle.std.specs.Prelude.{List, length, ◌≡◌, ◌≤◌, ◌↔◌, ℕ};
 ghost use Rattle.k_bounds.specs.Counts.{allocates_in, allocation_count, one_if, operation_count, store_count, stores_by};
-ghost use Rattle.k_types.specs.Complete.{IsPrefixOf};
-ghost use Rattle.k_types.specs.Following.{FollowsOwn};
-ghost use Rattle.k_types.specs.Numbers.{numbers_below};
-ghost use Rattle.k_types.specs.Steps.{IsLegalHistory, done_by};
-ghost use Rattle.k_types.specs.Totals.{total};
-ghost use Rattle.k_types.specs.Trace.{Trace, operations_of, process_count};
-ghost use Rattle.k_types.specs.declared.event.Event.{Event};
-ghost use Rattle.k_types.specs.declared.op.Op.{Op};
+ghost use Rattle.k_laws.specs.k_types.Complete.{IsPrefixOf};
+ghost use Rattle.k_laws.specs.k_types.Following.{FollowsOwn};
+ghost use Rattle.k_laws.specs.k_types.Numbers.{numbers_below};
+ghost use Rattle.k_laws.specs.k_types.Steps.{IsLegalHistory, done_by};
+ghost use Rattle.k_laws.specs.k_types.Totals.{total};
+ghost use Rattle.k_laws.specs.k_types.Trace.{Trace, operations_of, process_count};
+ghost use Rattle.k_laws.specs.k_types.declared.event.Event.{Event};
+ghost use Rattle.k_laws.specs.k_types.declared.op.Op.{Op};
 
-use k_types::Op;
+use k_laws::Op;
 
 /// What a legal history counts is the sum of what the operations of each process count: its stores, its operations, and its
 /// allocations in a segment. With the next law this bounds them by the operations of the trace.

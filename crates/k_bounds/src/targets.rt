@@ -1,12 +1,12 @@
 //! Sums over distinct names of what exit items lead to.
 ghost use Rattle.std.specs.Prelude.{List, if◌then◌else◌, ◌≡◌, ℕ};
 ghost use Rattle.k_bounds.specs.Distinct.{AreDistinctNames};
-ghost use Rattle.k_types.specs.Names.{heap_eq, name_among};
-ghost use Rattle.k_types.specs.Sound.{AreDistinctExits};
-ghost use Rattle.k_types.specs.State.{ExitItem, has_exit};
-ghost use Rattle.k_types.specs.Totals.{total};
-ghost use Rattle.k_types.specs.declared.names.Heap.{Heap};
-ghost use Rattle.k_types.specs.declared.names.Name.{Name};
+ghost use Rattle.k_laws.specs.k_types.Names.{heap_eq, name_among};
+ghost use Rattle.k_laws.specs.k_types.Sound.{AreDistinctExits};
+ghost use Rattle.k_laws.specs.k_types.State.{ExitItem, has_exit};
+ghost use Rattle.k_laws.specs.k_types.Totals.{total};
+ghost use Rattle.k_laws.specs.k_types.declared.names.Heap.{Heap};
+ghost use Rattle.k_laws.specs.k_types.declared.names.Name.{Name};
 
 /// Distinct names that are the targets of a heap's exit items, in whatever order, give the same sums as the items: the same
 /// length, the same number that pass a test.

@@ -33,13 +33,13 @@ use Rattle.k_cell.specs.Holdings.{HoldingsValue}
 use Rattle.k_heap.specs.Heaps.{HeapRecord, holdings_of as heap_holdings, own_segment}
 use Rattle.k_shared.specs.SharedHeaps.{SharedRecord}
 use Rattle.k_space.specs.Objects.{BodyValue}
-use Rattle.k_commit.specs.Beside.{HasSteppedWithKernel, HasSteppedWithShared}
-use Rattle.k_commit.specs.Changed.{bodies_after}
-use Rattle.k_commit.specs.Others.{held_by, of_shared, shared_by}
-use Rattle.k_commit.specs.Published.{CanPublish, HasPublished}
-use Rattle.k_commit.specs.Rooms.{HasRoomFor}
-use Rattle.k_commit.specs.Standing.{HeapStands}
-use Rattle.k_commit.specs.Stepped.{HasStepped}
+use Rattle.k_operate.specs.k_commit.Beside.{HasSteppedWithKernel, HasSteppedWithShared}
+use Rattle.k_operate.specs.k_commit.Changed.{bodies_after}
+use Rattle.k_operate.specs.k_commit.Others.{held_by, of_shared, shared_by}
+use Rattle.k_operate.specs.k_commit.Published.{CanPublish, HasPublished}
+use Rattle.k_operate.specs.k_commit.Rooms.{HasRoomFor}
+use Rattle.k_operate.specs.k_commit.Standing.{HeapStands}
+use Rattle.k_operate.specs.k_commit.Stepped.{HasStepped}
 use Rattle.k_operate.specs.Own.{CanStepOwn}
 use Rattle.k_operate.specs.Operating.{CanStepWithKernel, CanStepWithShared}
 use Rattle.k_guests.specs.declared.guest.Guest.{Guest}
@@ -51,7 +51,7 @@ use Rattle.k_guests.proofs.Reserve.{published_kept}
 use Rattle.k_guests.proofs.ReserveShown.{kernel_shown}
 use Rattle.k_calls.proofs.Going.{book_goes_on, guest_goes_on, kernel_goes_on, shared_goes_on, stands_where_made}
 use Rattle.k_calls.proofs.Reserved.{operation_kept}
-use Rattle.k_calls.proofs.Rooms.{bodies_left, event_left, kernel_item, kernel_tables, own_tables, shared_tables}
+use Rattle.k_calls.proofs.TestedRooms.{bodies_left, event_left, kernel_item, kernel_tables, own_tables, shared_tables}
 
 -- publishing
 module _ (basis : Basis) {bodies : List BodyValue} (g : Guest) (b : BookRecord) (guest : GuestServesWith basis b.journal.table bodies g) (book : BookServes basis b) where

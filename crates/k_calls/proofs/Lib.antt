@@ -1,4 +1,4 @@
-pub mod Rooms
+pub mod TestedRooms
 pub mod Provided
 pub mod Going
 pub mod Reserved
@@ -8,3 +8,10 @@ pub mod Staying
 pub mod Operated
 pub mod Refused
 pub use Rattle.k_operate.proofs.AbsorbKept
+pub use Rattle.k_guests.proofs.Objects
+pub use Rattle.k_guests.proofs.Reserve
+pub use Rattle.k_guests.proofs.ReserveShown
+pub use Rattle.k_guests.proofs.Lists
+pub use Rattle.k_guests.proofs.LocalKept
+pub use Rattle.k_operate.proofs.Looped
+pub use Rattle.k_operate.proofs.Written

@@ -21,7 +21,7 @@ use Rattle.k_moves.specs.Shown.{idle_part}
 use Rattle.k_book.specs.Books.{BookRecord}
 use Rattle.k_cell.specs.Holdings.{HoldingsValue}
 use Rattle.k_heap.specs.Heaps.{has_ended_in}
-use Rattle.k_local.specs.Locals.{after_local}
+use Rattle.k_operate.specs.k_local.Locals.{after_local}
 use Rattle.k_operate.specs.Own.{is_collect}
 use Rattle.k_operate.specs.Operating.{collects_or_exits}
 use Rattle.k_shared.specs.SharedHeaps.{SharedRecord}

@@ -13,8 +13,7 @@ ghost use Rattle.k_guests.specs.Serving.{Basis, BookServes, GuestServes, basis_o
 use k_book::Book;
 use k_guests::{Guest, Terms};
 use k_kernel::KernelCell;
-use k_local::local;
-use k_operate::{Reach, publish, reach, step_kernel, step_own, step_shared};
+use k_operate::{Reach, local, publish, reach, step_kernel, step_own, step_shared};
 use k_shared::SharedCell;
 use k_types::{Event, Op, Reply};
 

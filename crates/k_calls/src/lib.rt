@@ -19,9 +19,10 @@ mod stepping;
 
 pub use doing::{do_alone, reached};
 pub use errors::HostError;
+pub use k_guests::{Guest, Rooms, Terms, are_fit, make_parts};
 pub use k_operate::{
-    Reach, absorb, begin_heap, begin_kernel, end_heap, end_kernel, exit, kill, publish,
-    settle_heap, settle_kernel,
+    Reach, absorb, begin_heap, begin_kernel, end_heap, end_heap_listing, end_kernel,
+    end_kernel_listing, exit, kill, mark_heap, mark_kernel, publish, settle_heap, settle_kernel,
 };
 pub use readiness::{awake, has_events_left, is_begun, is_idle, is_marked, ready, room_left};
 pub use stepping::{operate_with, try_inside, try_publish};

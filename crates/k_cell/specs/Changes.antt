@@ -1,14 +1,14 @@
 -- What calls change of a cell, as functions of its value.
 use Rattle.std.specs.Prelude.{◌≡◌, ℕ, Bool, ◌+◌, ◌==◌, ◌&&◌, ◌||◌, not, [], ◌∷◌, ◌++◌, map, filter, length, slice_index_or, slice_set, Some, None, IsTrue, if◌then◌else◌}
-use Rattle.k_types.specs.declared.names.Name.{Name}
-use Rattle.k_types.specs.Agree.{CellValue}
-use Rattle.k_types.specs.Names.{name_eq, name_among}
-use Rattle.k_types.specs.State.{Content, has, refers_in}
-use Rattle.k_types.specs.Updates.{object_after_write, with_object}
-use Rattle.k_base.specs.Distinct.{AreDistinctNames}
-use Rattle.k_space.specs.Objects.{BodyValue}
-use Rattle.k_space.specs.Segments.{SegmentValue, made, segment_objects}
-use Rattle.k_changes.specs.CellChanges.{given, with_objects}
+use Rattle.k_areas.specs.k_types.declared.names.Name.{Name}
+use Rattle.k_areas.specs.k_types.Agree.{CellValue}
+use Rattle.k_areas.specs.k_types.Names.{name_eq, name_among}
+use Rattle.k_areas.specs.k_types.State.{Content, has, refers_in}
+use Rattle.k_areas.specs.k_types.Updates.{object_after_write, with_object}
+use Rattle.k_areas.specs.k_base.Distinct.{AreDistinctNames}
+use Rattle.k_areas.specs.k_space.Objects.{BodyValue}
+use Rattle.k_areas.specs.k_space.Segments.{SegmentValue, made, segment_objects}
+use Rattle.k_areas.specs.k_changes.CellChanges.{given, with_objects}
 use Rattle.k_agree.specs.Marking.{AreReached, begun, is_foreign_in, marked}
 
 -- the name of the segment's next object

@@ -1,7 +1,7 @@
 -- What holdings end as, where their note is lent.
 use Rattle.std.specs.Borrow.{Lends, Fml, MutBor}
-use Rattle.k_tie.specs.Values.{NoteValue}
-use Rattle.k_tie.specs.contracts.note.Note.{the_row as note_row}
+use Rattle.k_agree.specs.k_tie.Values.{NoteValue}
+use Rattle.k_agree.specs.k_tie.contracts.note.Note.{the_row as note_row}
 use Rattle.k_cell.specs.Holdings.{HoldingsValue}
 use Rattle.k_cell.specs.contracts.holding.Holdings.{the_row as holdings_row}
 

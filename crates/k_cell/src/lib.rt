@@ -10,5 +10,6 @@ mod rooting;
 mod writing;
 
 pub use holding::Holdings;
-pub use k_mark::{Listener, Swept};
+pub use k_agree::Note;
+pub use k_areas::{Body, Listener, Segment, Stored, Swept};
 pub use rooms::HoldingRooms;

@@ -1,12 +1,11 @@
 //! Changes of one segment of an area.
 ghost use Rattle.std.specs.Prelude.{◌≡◌, option_map};
-ghost use Rattle.k_types.specs.Names.{name_of};
-ghost use Rattle.k_types.specs.State.{Holds, Refers};
-ghost use Rattle.k_space.specs.Areas.{HasDistinct};
+ghost use Rattle.k_areas.specs.k_types.Names.{name_of};
+ghost use Rattle.k_areas.specs.k_types.State.{Holds, Refers};
+ghost use Rattle.k_areas.specs.k_space.Areas.{HasDistinct};
 ghost use Rattle.k_cell.specs.Placed.{CanPlace, IsIntAt, IsPlacedIn, IsRefAt, IsWrittenIn};
 
-use k_space::{Area, Body};
-use k_types::{Link, Name, Seg};
+use k_areas::{Area, Body, Link, Name, Seg};
 
 /// Puts an object into the segment of that number.
 pub(crate) fn place_in(area: &mut Area, seg: Seg, body: Body) -> Link

@@ -2,18 +2,18 @@
 use Rattle.std.proofs.Common.{◌≡◌, ◌&&◌, ◌||◌, not, Bool, true, cond, refl, ap, ap₂, ◌∙◌, arith, List, [], ◌∷◌, filter, None, unwrap_or}
 use Rattle.std.proofs.Math.Path.{fun_ext}
 use Rattle.std.specs.List.{list_any}
-use Rattle.k_types.specs.declared.names.Name.{Name}
-use Rattle.k_types.specs.declared.names.Heap.{Heap}
-use Rattle.k_types.specs.Names.{heap_eq}
-use Rattle.k_types.specs.Trace.{Trace}
-use Rattle.k_types.specs.State.{State, Object, has, refers, has_exit, scan_of}
-use Rattle.k_types.specs.Owners.{owner_of, objects_of}
-use Rattle.k_types.specs.Reach.{reach_among}
-use Rattle.k_types.specs.Updates.{keep_objects, keep_exits, keep_shares, close_scan}
-use Rattle.k_types.specs.Effects.{after_ended, survives, exit_stays, open_roots}
-use Rattle.k_types.specs.Cells.{part}
+use Rattle.k_laws.specs.k_types.declared.names.Name.{Name}
+use Rattle.k_laws.specs.k_types.declared.names.Heap.{Heap}
+use Rattle.k_laws.specs.k_types.Names.{heap_eq}
+use Rattle.k_laws.specs.k_types.Trace.{Trace}
+use Rattle.k_laws.specs.k_types.State.{State, Object, has, refers, has_exit, scan_of}
+use Rattle.k_laws.specs.k_types.Owners.{owner_of, objects_of}
+use Rattle.k_laws.specs.k_types.Reach.{reach_among}
+use Rattle.k_laws.specs.k_types.Updates.{keep_objects, keep_exits, keep_shares, close_scan}
+use Rattle.k_laws.specs.k_types.Effects.{after_ended, survives, exit_stays, open_roots}
+use Rattle.k_laws.specs.k_types.Cells.{part}
 use Rattle.k_changes.specs.CellChanges.{collected}
-use Rattle.k_base.proofs.NameTests.{heap_eq_refl}
+use Rattle.k_laws.proofs.NameTests.{heap_eq_refl}
 use Rattle.k_laws.proofs.Kept.{has_exit-kept, scan_closed}
 use Rattle.k_laws.proofs.Means.{reach_is}
 

@@ -3,22 +3,22 @@ use Rattle.std.proofs.Common.{◌≡◌, ◌≢◌, ℕ, ◌+◌, ◌-◌, ◌*�
 use Rattle.std.proofs.Math.Path.{fun_ext}
 use Rattle.std.specs.List.{list_any}
 use Rattle.std.proofs.lemmas.Bool.{false≢true, cases_eq, or_left}
-use Rattle.k_types.specs.declared.names.Name.{Name}
-use Rattle.k_types.specs.declared.names.Heap.{Heap}
-use Rattle.k_types.specs.declared.names.Heap.TheVariants.{Kernel}
-use Rattle.k_types.specs.Names.{heap_eq, name_eq, among}
-use Rattle.k_types.specs.Totals.{total}
-use Rattle.k_types.specs.Numbers.{numbers_below}
-use Rattle.k_types.specs.TraceRules.{AreLimits}
-use Rattle.k_types.specs.Trace.{Trace, process_count}
-use Rattle.k_types.specs.State.{State, Object, ExitItem, Sharing, has_exit, has_share, scan_of, refers, has}
-use Rattle.k_types.specs.Owners.{owner_of, user, shared, bytes_by, bytes_of, charge_of, charge_by, object_bytes}
-use Rattle.k_types.specs.Limits.{direct_by}
-use Rattle.k_types.specs.Updates.{keep_objects, keep_exits, keep_shares, close_scan}
-use Rattle.k_types.specs.Reach.{reach_in}
-use Rattle.k_types.specs.Effects.{after_ended, survives, exit_stays, share_stays, open_roots}
-use Rattle.k_types.specs.Cells.{CellPart, book_part, part, entries}
-use Rattle.k_types.specs.Sound.{IsSound}
+use Rattle.k_laws.specs.k_types.declared.names.Name.{Name}
+use Rattle.k_laws.specs.k_types.declared.names.Heap.{Heap}
+use Rattle.k_laws.specs.k_types.declared.names.Heap.TheVariants.{Kernel}
+use Rattle.k_laws.specs.k_types.Names.{heap_eq, name_eq, among}
+use Rattle.k_laws.specs.k_types.Totals.{total}
+use Rattle.k_laws.specs.k_types.Numbers.{numbers_below}
+use Rattle.k_laws.specs.k_types.TraceRules.{AreLimits}
+use Rattle.k_laws.specs.k_types.Trace.{Trace, process_count}
+use Rattle.k_laws.specs.k_types.State.{State, Object, ExitItem, Sharing, has_exit, has_share, scan_of, refers, has}
+use Rattle.k_laws.specs.k_types.Owners.{owner_of, user, shared, bytes_by, bytes_of, charge_of, charge_by, object_bytes}
+use Rattle.k_laws.specs.k_types.Limits.{direct_by}
+use Rattle.k_laws.specs.k_types.Updates.{keep_objects, keep_exits, keep_shares, close_scan}
+use Rattle.k_laws.specs.k_types.Reach.{reach_in}
+use Rattle.k_laws.specs.k_types.Effects.{after_ended, survives, exit_stays, share_stays, open_roots}
+use Rattle.k_laws.specs.k_types.Cells.{CellPart, book_part, part, entries}
+use Rattle.k_laws.specs.k_types.Sound.{IsSound}
 use Rattle.k_changes.specs.CellChanges.{collected, reached_in}
 use Rattle.k_changes.specs.BookChanges.{when_collected, without_entries, drops, has_way_into, shared_by, bytes_in}
 use Rattle.k_changes.proofs.Collected.{ended_on_cell, stays_here}
@@ -26,10 +26,10 @@ use Rattle.k_changes.proofs.EndsOnBook.{direct_lowered}
 use Rattle.k_changes.proofs.EntryCounts.{kept_and_gone, one_item}
 use Rattle.k_changes.proofs.SharedSums.{shares_sum}
 use Rattle.k_changes.proofs.WaysInto.{share_stays_so}
-use Rattle.k_base.proofs.Sums.{bit, sum_same, sum_both, same_below}
+use Rattle.k_laws.proofs.Sums.{bit, sum_same, sum_both, same_below}
 use Rattle.k_laws.proofs.Kept.{has_share-kept, distinct_shares-kept, any-fewer}
-use Rattle.k_base.proofs.NameTests.{heap_eq-true}
-use Rattle.k_base.proofs.Lists.{get_mapped, filter_stronger}
+use Rattle.k_laws.proofs.NameTests.{heap_eq-true}
+use Rattle.k_laws.proofs.Lists.{get_mapped, filter_stronger}
 
 -- the bytes of a heap are those of the objects in its cell's part
 shows : (trace : Trace) (su : State) (h : Heap) → bytes_of trace su h ≡ bytes_in (part trace su h)

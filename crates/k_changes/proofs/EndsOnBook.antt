@@ -2,35 +2,35 @@
 use Rattle.std.proofs.Common.{◌≡◌, ◌≢◌, ◌⊎◌, ℕ, zero, suc, ◌+◌, ◌-◌, ◌*◌, ◌<◌, ◌==◌, ◌&&◌, ◌||◌, not, Bool, true, false, cond, refl, sym, ap, ap₂, ◌∙◌, inl, inr, List, [], filter, map, length, replicate, Option, Some, None, is_some, get_or, set, get_or-set_same, get_or-set_other, arith, eq-eqb, ne_eqb, IsFalse}
 use Rattle.std.proofs.Math.Path.{fun_ext}
 use Rattle.std.proofs.lemmas.Bool.{false≢true, cases_eq}
-use Rattle.k_types.specs.declared.names.Name.{Name}
-use Rattle.k_types.specs.declared.names.Heap.{Heap}
-use Rattle.k_types.specs.declared.names.Heap.TheVariants.{Kernel}
-use Rattle.k_types.specs.Names.{heap_eq, among}
-use Rattle.k_types.specs.Totals.{total}
-use Rattle.k_types.specs.Numbers.{numbers_below}
-use Rattle.k_types.specs.TraceRules.{AreLimits}
-use Rattle.k_types.specs.Trace.{Trace, process_count, limit_of}
-use Rattle.k_types.specs.State.{State, ExitItem, Sharing, has_exit, has_share}
-use Rattle.k_types.specs.Owners.{owner_of, user, shared, bytes_by, bytes_of, charge_of}
-use Rattle.k_types.specs.Limits.{direct_by}
-use Rattle.k_types.specs.Reach.{is_shared_heap}
-use Rattle.k_types.specs.Updates.{keep_shares, clear_registers, end_process, turn_exits}
-use Rattle.k_types.specs.Effects.{after_end_of, exit_after, passes_to_kernel, leads_back}
-use Rattle.k_types.specs.Cells.{BookPart, book_part, part, entries, pins, pins_of}
-use Rattle.k_types.specs.Sound.{IsSound}
+use Rattle.k_laws.specs.k_types.declared.names.Name.{Name}
+use Rattle.k_laws.specs.k_types.declared.names.Heap.{Heap}
+use Rattle.k_laws.specs.k_types.declared.names.Heap.TheVariants.{Kernel}
+use Rattle.k_laws.specs.k_types.Names.{heap_eq, among}
+use Rattle.k_laws.specs.k_types.Totals.{total}
+use Rattle.k_laws.specs.k_types.Numbers.{numbers_below}
+use Rattle.k_laws.specs.k_types.TraceRules.{AreLimits}
+use Rattle.k_laws.specs.k_types.Trace.{Trace, process_count, limit_of}
+use Rattle.k_laws.specs.k_types.State.{State, ExitItem, Sharing, has_exit, has_share}
+use Rattle.k_laws.specs.k_types.Owners.{owner_of, user, shared, bytes_by, bytes_of, charge_of}
+use Rattle.k_laws.specs.k_types.Limits.{direct_by}
+use Rattle.k_laws.specs.k_types.Reach.{is_shared_heap}
+use Rattle.k_laws.specs.k_types.Updates.{keep_shares, clear_registers, end_process, turn_exits}
+use Rattle.k_laws.specs.k_types.Effects.{after_end_of, exit_after, passes_to_kernel, leads_back}
+use Rattle.k_laws.specs.k_types.Cells.{BookPart, book_part, part, entries, pins, pins_of}
+use Rattle.k_laws.specs.k_types.Sound.{IsSound}
 use Rattle.k_laws.specs.Changes.{MayExit}
 use Rattle.k_changes.specs.BookChanges.{charge_in, when_ended}
 use Rattle.k_changes.proofs.OnBook.{map_changed}
 use Rattle.k_changes.proofs.PinsOnBook.{one_changed}
 use Rattle.k_changes.proofs.EntryCounts.{entries_left, entries_turned}
 use Rattle.k_changes.proofs.SharedSums.{shares_sum}
-use Rattle.k_base.proofs.Sums.{bit, same_below}
-use Rattle.k_base.proofs.NameTests.{heap_eq-true, heap_eq_refl}
+use Rattle.k_laws.proofs.Sums.{bit, same_below}
+use Rattle.k_laws.proofs.NameTests.{heap_eq-true, heap_eq_refl}
 use Rattle.k_laws.proofs.Merge.{merged}
 use Rattle.k_laws.proofs.Ending.{same_bytes, own_charge, other_charge, leaves_rest}
 use Rattle.k_laws.proofs.Raised.{direct_added}
 use Rattle.k_laws.proofs.SoundExited.{is_merged}
-use Rattle.k_base.proofs.Lists.{get_mapped}
+use Rattle.k_laws.proofs.Lists.{get_mapped}
 
 -- one number of the list is less by so much
 pub map_lowered : (f g : ℕ → ℕ) (n k less : ℕ) → k < n → ((q : ℕ) → f q ≡ g q + less * bit (q == k)) → map g (numbers_below n) ≡ set (map f (numbers_below n)) k (get_or (map f (numbers_below n)) k 0 - less)

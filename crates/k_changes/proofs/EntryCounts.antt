@@ -2,15 +2,15 @@
 use Rattle.std.proofs.Common.{◌≡◌, ℕ, ◌+◌, ◌-◌, ◌&&◌, ◌||◌, ◌⊎◌, not, Bool, true, false, cond, refl, sym, ap, ap₂, ◌∙◌, inl, inr, List, [], ◌∷◌, filter, filter_map, Option, Some, None, is_some, arith, IsFalse}
 use Rattle.std.specs.List.{cons_option}
 use Rattle.std.proofs.lemmas.Bool.{false≢true, and_parts}
-use Rattle.k_types.specs.declared.names.Name.{Name}
-use Rattle.k_types.specs.declared.names.Heap.{Heap}
-use Rattle.k_types.specs.Names.{name_eq, heap_eq}
-use Rattle.k_types.specs.Totals.{total}
-use Rattle.k_types.specs.State.{ExitItem, has_exit}
-use Rattle.k_types.specs.Sound.{AreDistinctExits}
-use Rattle.k_base.proofs.Sums.{bit}
-use Rattle.k_base.proofs.NameTests.{heap_eq-true, name_eq-true}
-use Rattle.k_base.proofs.Sums.{sum_both, sum_same}
+use Rattle.k_laws.specs.k_types.declared.names.Name.{Name}
+use Rattle.k_laws.specs.k_types.declared.names.Heap.{Heap}
+use Rattle.k_laws.specs.k_types.Names.{name_eq, heap_eq}
+use Rattle.k_laws.specs.k_types.Totals.{total}
+use Rattle.k_laws.specs.k_types.State.{ExitItem, has_exit}
+use Rattle.k_laws.specs.k_types.Sound.{AreDistinctExits}
+use Rattle.k_laws.proofs.Sums.{bit}
+use Rattle.k_laws.proofs.NameTests.{heap_eq-true, name_eq-true}
+use Rattle.k_laws.proofs.Sums.{sum_both, sum_same}
 
 -- what is kept and what goes are all
 pub kept_and_gone : {A : Type 0} (f : A → ℕ) (q : A → Bool) (xs : List A) → total f (filter q xs) + total (λ x. cond (q x) 0 (f x)) xs ≡ total f xs

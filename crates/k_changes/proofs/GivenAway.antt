@@ -3,22 +3,22 @@ use Rattle.std.proofs.Common.{◌≡◌, ℕ, ◌==◌, ◌&&◌, ◌||◌, not,
 use Rattle.std.proofs.Math.Path.{fun_ext}
 use Rattle.std.proofs.lemmas.Bool.{false≢true, or_cases, or_left, or_right, and_parts, and_from, false_from_ne_true, not_from_false, not-true}
 use Rattle.std.proofs.lemmas.List.Folds.{list_any-append}
-use Rattle.k_types.specs.declared.names.Name.{Name}
-use Rattle.k_types.specs.declared.names.Heap.{Heap}
-use Rattle.k_types.specs.declared.names.Heap.TheVariants.{Kernel}
-use Rattle.k_types.specs.declared.names.Phase.TheVariants.{Unmade, Absorbed}
-use Rattle.k_types.specs.Names.{heap_eq, among}
-use Rattle.k_types.specs.Trace.{Trace}
-use Rattle.k_types.specs.State.{State, Object, has_exit}
-use Rattle.k_types.specs.Owners.{owner_of, objects_of, user, shared, phase_of}
-use Rattle.k_types.specs.Reach.{is_shared_heap}
-use Rattle.k_types.specs.Updates.{set_phase, keep_exits, keep_shares, clear_registers, end_process, turn_exits}
-use Rattle.k_types.specs.Effects.{after_end_of, after_absorbed, stays_after_absorb}
-use Rattle.k_types.specs.Cells.{part, made_of}
-use Rattle.k_types.specs.Sound.{IsSound, IsOrdered}
+use Rattle.k_laws.specs.k_types.declared.names.Name.{Name}
+use Rattle.k_laws.specs.k_types.declared.names.Heap.{Heap}
+use Rattle.k_laws.specs.k_types.declared.names.Heap.TheVariants.{Kernel}
+use Rattle.k_laws.specs.k_types.declared.names.Phase.TheVariants.{Unmade, Absorbed}
+use Rattle.k_laws.specs.k_types.Names.{heap_eq, among}
+use Rattle.k_laws.specs.k_types.Trace.{Trace}
+use Rattle.k_laws.specs.k_types.State.{State, Object, has_exit}
+use Rattle.k_laws.specs.k_types.Owners.{owner_of, objects_of, user, shared, phase_of}
+use Rattle.k_laws.specs.k_types.Reach.{is_shared_heap}
+use Rattle.k_laws.specs.k_types.Updates.{set_phase, keep_exits, keep_shares, clear_registers, end_process, turn_exits}
+use Rattle.k_laws.specs.k_types.Effects.{after_end_of, after_absorbed, stays_after_absorb}
+use Rattle.k_laws.specs.k_types.Cells.{part, made_of}
+use Rattle.k_laws.specs.k_types.Sound.{IsSound, IsOrdered}
 use Rattle.k_changes.specs.CellChanges.{at_its_end, when_absorbed, given_away, taking_in, either_of, with_objects}
 use Rattle.k_changes.proofs.Merged.{merged as merged_lists}
-use Rattle.k_base.proofs.NameTests.{heap_eq-true, heap_eq_refl, heap_eq_sym}
+use Rattle.k_laws.proofs.NameTests.{heap_eq-true, heap_eq_refl, heap_eq_sym}
 use Rattle.k_laws.proofs.Kept.{has_exit-kept}
 use Rattle.k_laws.specs.Changes.{MayAbsorb, MayExit}
 use Rattle.k_laws.specs.Termination.{StaysOrPasses}
@@ -26,7 +26,7 @@ use Rattle.k_laws.proofs.Merge.{merged}
 use Rattle.k_laws.proofs.Means.{exit_from, exit_comes}
 use Rattle.k_laws.proofs.SoundAbsorbed.{is_merged as absorbed_owner, to_kernel}
 use Rattle.k_laws.proofs.SoundExited.{is_merged as ended_owner}
-use Rattle.k_base.proofs.Tests.{same_test}
+use Rattle.k_laws.proofs.Tests.{same_test}
 
 module _ (own own' : ℕ → Heap) (g : Heap) (apart : IsFalse (heap_eq Kernel g)) (is : (seg : ℕ) → own' seg ≡ merged g (own seg)) where
   none_left : (seg : ℕ) → heap_eq (own' seg) g ≡ false

@@ -1,24 +1,24 @@
 -- The laws of this crate, one lemma a clause under the law's name, for the crates above to cite.
 use Rattle.std.specs.Prelude.{IsFalse, List, Some, ◌≡◌, ℕ, length, not, ◌+◌, ◌<◌, Option, IsTrue, slice_index_or}
-use Rattle.k_types.specs.Cells.{book_part, part, Cell}
-use Rattle.k_types.specs.Effects.{after_absorbed, after_end_of, after_ended}
-use Rattle.k_types.specs.Limits.{full_limit, full_for}
-use Rattle.k_types.specs.Names.{among, heap_eq}
-use Rattle.k_types.specs.Owners.{charge_of, owner_of, shared, user, phase_of, is_absorbed, bytes_of}
-use Rattle.k_types.specs.Reach.{roots_of}
-use Rattle.k_types.specs.Sound.{IsSound, IsOrdered, IsSized}
-use Rattle.k_types.specs.State.{State, scan_of, Content, has_exit, register, has_share, object_at}
-use Rattle.k_types.specs.Trace.{Trace, kinds_of, limit_of, process_count, size_of_type}
-use Rattle.k_types.specs.TraceRules.{AreLimits}
-use Rattle.k_types.specs.Updates.{open_scan, add_exit, create, write, count_done, set_register, add_share, close, set_phase, next_name, set_max}
-use Rattle.k_types.specs.declared.names.Field.{Field}
-use Rattle.k_types.specs.declared.names.Heap.{Heap}
-use Rattle.k_types.specs.declared.names.Heap.TheVariants.{Kernel}
-use Rattle.k_types.specs.declared.names.Name.{Name}
-use Rattle.k_types.specs.declared.names.Phase.{Phase}
-use Rattle.k_types.specs.declared.names.Phase.TheVariants.{Populating}
-use Rattle.k_types.specs.declared.names.Pid.{Pid}
-use Rattle.k_types.specs.declared.names.TypeId.{TypeId}
+use Rattle.k_laws.specs.k_types.Cells.{book_part, part, Cell}
+use Rattle.k_laws.specs.k_types.Effects.{after_absorbed, after_end_of, after_ended}
+use Rattle.k_laws.specs.k_types.Limits.{full_limit, full_for}
+use Rattle.k_laws.specs.k_types.Names.{among, heap_eq}
+use Rattle.k_laws.specs.k_types.Owners.{charge_of, owner_of, shared, user, phase_of, is_absorbed, bytes_of}
+use Rattle.k_laws.specs.k_types.Reach.{roots_of}
+use Rattle.k_laws.specs.k_types.Sound.{IsSound, IsOrdered, IsSized}
+use Rattle.k_laws.specs.k_types.State.{State, scan_of, Content, has_exit, register, has_share, object_at}
+use Rattle.k_laws.specs.k_types.Trace.{Trace, kinds_of, limit_of, process_count, size_of_type}
+use Rattle.k_laws.specs.k_types.TraceRules.{AreLimits}
+use Rattle.k_laws.specs.k_types.Updates.{open_scan, add_exit, create, write, count_done, set_register, add_share, close, set_phase, next_name, set_max}
+use Rattle.k_laws.specs.k_types.declared.names.Field.{Field}
+use Rattle.k_laws.specs.k_types.declared.names.Heap.{Heap}
+use Rattle.k_laws.specs.k_types.declared.names.Heap.TheVariants.{Kernel}
+use Rattle.k_laws.specs.k_types.declared.names.Name.{Name}
+use Rattle.k_laws.specs.k_types.declared.names.Phase.{Phase}
+use Rattle.k_laws.specs.k_types.declared.names.Phase.TheVariants.{Populating}
+use Rattle.k_laws.specs.k_types.declared.names.Pid.{Pid}
+use Rattle.k_laws.specs.k_types.declared.names.TypeId.{TypeId}
 use Rattle.k_changes.proofs.Collected.{ended_on_cell}
 use Rattle.k_changes.proofs.CollectedOnBook.{kernel_collected_on_book, collected_on_book}
 use Rattle.k_changes.proofs.EndsOnBook.{charge_told, end_on_book}

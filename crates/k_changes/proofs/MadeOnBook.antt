@@ -1,25 +1,25 @@
 -- What an object that is made changes in the book's part.
 use Rattle.std.proofs.Common.{◌≡◌, ℕ, ◌+◌, ◌*◌, ◌<◌, Bool, false, refl, ap, ap₂, ◌∙◌, map, length, arith, IsFalse}
 use Rattle.std.proofs.Math.Path.{fun_ext}
-use Rattle.k_types.specs.declared.names.Pid.{Pid}
-use Rattle.k_types.specs.declared.names.TypeId.{TypeId}
-use Rattle.k_types.specs.declared.names.Heap.{Heap}
-use Rattle.k_types.specs.declared.names.Heap.TheVariants.{Kernel}
-use Rattle.k_types.specs.declared.names.Phase.TheVariants.{Populating}
-use Rattle.k_types.specs.Names.{heap_eq, among}
-use Rattle.k_types.specs.Numbers.{numbers_below}
-use Rattle.k_types.specs.TraceRules.{AreLimits}
-use Rattle.k_types.specs.Trace.{Trace, process_count, limit_of, kinds_of, size_of_type}
-use Rattle.k_types.specs.State.{State}
-use Rattle.k_types.specs.Owners.{owner_of, user, shared, bytes_of, charge_of, phase_of, is_absorbed}
-use Rattle.k_types.specs.Limits.{direct_by}
-use Rattle.k_types.specs.Updates.{create}
-use Rattle.k_types.specs.Cells.{book_part}
-use Rattle.k_types.specs.Sound.{IsSound}
+use Rattle.k_laws.specs.k_types.declared.names.Pid.{Pid}
+use Rattle.k_laws.specs.k_types.declared.names.TypeId.{TypeId}
+use Rattle.k_laws.specs.k_types.declared.names.Heap.{Heap}
+use Rattle.k_laws.specs.k_types.declared.names.Heap.TheVariants.{Kernel}
+use Rattle.k_laws.specs.k_types.declared.names.Phase.TheVariants.{Populating}
+use Rattle.k_laws.specs.k_types.Names.{heap_eq, among}
+use Rattle.k_laws.specs.k_types.Numbers.{numbers_below}
+use Rattle.k_laws.specs.k_types.TraceRules.{AreLimits}
+use Rattle.k_laws.specs.k_types.Trace.{Trace, process_count, limit_of, kinds_of, size_of_type}
+use Rattle.k_laws.specs.k_types.State.{State}
+use Rattle.k_laws.specs.k_types.Owners.{owner_of, user, shared, bytes_of, charge_of, phase_of, is_absorbed}
+use Rattle.k_laws.specs.k_types.Limits.{direct_by}
+use Rattle.k_laws.specs.k_types.Updates.{create}
+use Rattle.k_laws.specs.k_types.Cells.{book_part}
+use Rattle.k_laws.specs.k_types.Sound.{IsSound}
 use Rattle.k_changes.specs.BookChanges.{with_charge, with_shared_bytes}
 use Rattle.k_changes.proofs.OnBook.{map_raised, direct_raised}
-use Rattle.k_base.proofs.Charges.{bit_turned}
-use Rattle.k_base.proofs.Sums.{bit}
+use Rattle.k_laws.proofs.Charges.{bit_turned}
+use Rattle.k_laws.proofs.Sums.{bit}
 use Rattle.k_laws.proofs.OwnerOf.{owner_user, owner_kernel, owner_shared}
 use Rattle.k_laws.proofs.SoundNew.{bytes_after}
 use Rattle.k_laws.proofs.Charged.{new_charge, charge_of_kernel_new, snew_charge}

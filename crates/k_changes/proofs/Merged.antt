@@ -2,13 +2,13 @@
 use Rattle.std.proofs.Common.{◌≡◌, ◌||◌, Bool, true, false, cond, refl, sym, ap, ◌∙◌, List, [], ◌∷◌, filter, IsTrue, inl, inr, arith}
 use Rattle.std.proofs.lemmas.Bool.{cases_Bool}
 use Rattle.std.proofs.lemmas.Bool.Decides.{nat_tests}
-use Rattle.k_types.specs.declared.names.Name.{Name}
-use Rattle.k_types.specs.Names.{name_lt}
-use Rattle.k_types.specs.State.{Object}
-use Rattle.k_types.specs.Updates.{with_object}
-use Rattle.k_types.specs.Sound.{IsOrdered}
+use Rattle.k_laws.specs.k_types.declared.names.Name.{Name}
+use Rattle.k_laws.specs.k_types.Names.{name_lt}
+use Rattle.k_laws.specs.k_types.State.{Object}
+use Rattle.k_laws.specs.k_types.Updates.{with_object}
+use Rattle.k_laws.specs.k_types.Sound.{IsOrdered}
 use Rattle.k_changes.specs.CellChanges.{with_objects}
-use Rattle.k_base.proofs.Ordered.{IsBefore, ordered_before, ordered_tail}
+use Rattle.k_laws.proofs.Ordered.{IsBefore, ordered_before, ordered_tail}
 
 kept_before : (o : Object) (p : Object → Bool) (xs : List Object) → IsBefore o xs → IsBefore o (filter p xs)
 kept_before o p [] t = tt

@@ -2,25 +2,25 @@
 use Rattle.std.proofs.Common.{◌≡◌, ◌≢◌, ℕ, zero, suc, ◌+◌, ◌*◌, ◌<◌, ◌==◌, ◌&&◌, ◌||◌, not, Bool, true, false, cond, refl, sym, ap, ap₂, ◌∙◌, List, [], ◌∷◌, ◌++◌, map, length, get_or, set, arith, eq-eqb, ne_eqb, IsFalse}
 use Rattle.std.proofs.Math.Path.{fun_ext}
 use Rattle.std.proofs.lemmas.List.Folds.{list_any-append}
-use Rattle.k_types.specs.declared.names.Name.{Name}
-use Rattle.k_types.specs.declared.names.Heap.{Heap}
-use Rattle.k_types.specs.declared.names.Phase.{Phase}
-use Rattle.k_types.specs.Names.{heap_eq, name_eq, among}
-use Rattle.k_types.specs.Totals.{total}
-use Rattle.k_types.specs.Numbers.{numbers_below, numbers_from}
-use Rattle.k_types.specs.TraceRules.{AreLimits}
-use Rattle.k_types.specs.Trace.{Trace, process_count, limit_of}
-use Rattle.k_types.specs.State.{State, Content, ExitItem, has_exit, has_share}
-use Rattle.k_types.specs.Owners.{owner_of, owner_of_segment, user, shared, bytes_by, bytes_of, charge_of, charge_by, phase_of, is_absorbed}
-use Rattle.k_types.specs.Limits.{direct_by}
-use Rattle.k_types.specs.Updates.{count_done, write, add_exit, with_exit, open_scan, set_phase, add_share, close, set_max}
-use Rattle.k_types.specs.Cells.{book_part, pins_of}
+use Rattle.k_laws.specs.k_types.declared.names.Name.{Name}
+use Rattle.k_laws.specs.k_types.declared.names.Heap.{Heap}
+use Rattle.k_laws.specs.k_types.declared.names.Phase.{Phase}
+use Rattle.k_laws.specs.k_types.Names.{heap_eq, name_eq, among}
+use Rattle.k_laws.specs.k_types.Totals.{total}
+use Rattle.k_laws.specs.k_types.Numbers.{numbers_below, numbers_from}
+use Rattle.k_laws.specs.k_types.TraceRules.{AreLimits}
+use Rattle.k_laws.specs.k_types.Trace.{Trace, process_count, limit_of}
+use Rattle.k_laws.specs.k_types.State.{State, Content, ExitItem, has_exit, has_share}
+use Rattle.k_laws.specs.k_types.Owners.{owner_of, owner_of_segment, user, shared, bytes_by, bytes_of, charge_of, charge_by, phase_of, is_absorbed}
+use Rattle.k_laws.specs.k_types.Limits.{direct_by}
+use Rattle.k_laws.specs.k_types.Updates.{count_done, write, add_exit, with_exit, open_scan, set_phase, add_share, close, set_max}
+use Rattle.k_laws.specs.k_types.Cells.{book_part, pins_of}
 use Rattle.k_changes.specs.BookChanges.{owner_in, with_charge, with_entry, with_phase, with_share, when_closed, with_max}
 use Rattle.k_laws.proofs.Bytes.{bytes-written}
-use Rattle.k_base.proofs.Sums.{bit, total_append}
+use Rattle.k_laws.proofs.Sums.{bit, total_append}
 use Rattle.k_laws.proofs.Raised.{direct_added, charge_sharing}
 use Rattle.k_laws.proofs.SoundShare.{owner_kept}
-use Rattle.k_base.proofs.Lists.{get_mapped}
+use Rattle.k_laws.proofs.Lists.{get_mapped}
 
 -- the book tells all owners
 pub owner_told : (trace : Trace) (st : State) → owner_in trace (book_part trace st) ≡ owner_of trace st

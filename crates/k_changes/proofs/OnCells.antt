@@ -3,24 +3,24 @@ use Rattle.std.proofs.Common.{◌≡◌, ℕ, ◌+◌, ◌<◌, ◌==◌, ◌&&�
 use Rattle.std.proofs.Math.Path.{fun_ext}
 use Rattle.std.proofs.lemmas.Bool.{cases_eq, cases_Bool}
 use Rattle.std.proofs.lemmas.List.Folds.{list_any-append}
-use Rattle.k_types.specs.declared.names.Name.{Name}
-use Rattle.k_types.specs.declared.names.TypeId.{TypeId}
-use Rattle.k_types.specs.declared.names.Field.{Field}
-use Rattle.k_types.specs.declared.names.Heap.{Heap}
-use Rattle.k_types.specs.declared.names.Phase.{Phase}
-use Rattle.k_types.specs.declared.names.Phase.TheVariants.{Unmade}
-use Rattle.k_types.specs.Names.{heap_eq, name_eq}
-use Rattle.k_types.specs.Trace.{Trace}
-use Rattle.k_types.specs.State.{State, Content, ExitItem, fresh, has_exit, scan_of}
-use Rattle.k_types.specs.Owners.{owner_of, objects_of, shared, phase_of, is_absorbed}
-use Rattle.k_types.specs.Updates.{create, write, add_exit, with_exit, open_scan, set_phase, with_object, next_name}
-use Rattle.k_types.specs.Cells.{CellPart, Cell, part, made_of}
+use Rattle.k_laws.specs.k_types.declared.names.Name.{Name}
+use Rattle.k_laws.specs.k_types.declared.names.TypeId.{TypeId}
+use Rattle.k_laws.specs.k_types.declared.names.Field.{Field}
+use Rattle.k_laws.specs.k_types.declared.names.Heap.{Heap}
+use Rattle.k_laws.specs.k_types.declared.names.Phase.{Phase}
+use Rattle.k_laws.specs.k_types.declared.names.Phase.TheVariants.{Unmade}
+use Rattle.k_laws.specs.k_types.Names.{heap_eq, name_eq}
+use Rattle.k_laws.specs.k_types.Trace.{Trace}
+use Rattle.k_laws.specs.k_types.State.{State, Content, ExitItem, fresh, has_exit, scan_of}
+use Rattle.k_laws.specs.k_types.Owners.{owner_of, objects_of, shared, phase_of, is_absorbed}
+use Rattle.k_laws.specs.k_types.Updates.{create, write, add_exit, with_exit, open_scan, set_phase, with_object, next_name}
+use Rattle.k_laws.specs.k_types.Cells.{CellPart, Cell, part, made_of}
 use Rattle.k_laws.specs.PartUpdates.{with_written}
-use Rattle.k_types.specs.Sound.{IsOrdered}
+use Rattle.k_laws.specs.k_types.Sound.{IsOrdered}
 use Rattle.k_changes.specs.CellChanges.{given, with_created, with_exit_to, with_scan, in_phase}
 use Rattle.k_changes.proofs.Merged.{kept_placed}
-use Rattle.k_base.proofs.NameTests.{heap_eq-same, heap_eq_refl, name_eq-true}
-use Rattle.k_base.proofs.Objects.{kept-written}
+use Rattle.k_laws.proofs.NameTests.{heap_eq-same, heap_eq_refl, name_eq-true}
+use Rattle.k_laws.proofs.Objects.{kept-written}
 use Rattle.k_laws.proofs.SoundShare.{owner_kept}
 
 -- a write shows in every cell: only its own has the object

@@ -2,18 +2,18 @@
 use Rattle.std.proofs.Common.{◌≡◌, ◌≢◌, ℕ, zero, suc, ◌+◌, ◌≤◌, ◌<◌, Bool, true, false, cond, refl, ap, ap₂, inl, inr, List, [], ◌∷◌, length, Option, None, get_or, set, get_or-set_same, get_or-set_other, arith}
 use Rattle.std.proofs.Math.Path.{fun_ext}
 use Rattle.std.proofs.lemmas.Bool.{cases_eq}
-use Rattle.k_types.specs.declared.names.Name.{Name}
-use Rattle.k_types.specs.Names.{heap_eq, leads_to}
-use Rattle.k_types.specs.Totals.{total}
-use Rattle.k_types.specs.Numbers.{numbers_from}
-use Rattle.k_types.specs.Trace.{Trace, process_count}
-use Rattle.k_types.specs.State.{State, register}
-use Rattle.k_types.specs.Owners.{owner_of, user}
-use Rattle.k_types.specs.Updates.{set_register}
-use Rattle.k_types.specs.Cells.{book_part, pins, pins_of}
-use Rattle.k_types.specs.Sound.{IsSized}
+use Rattle.k_laws.specs.k_types.declared.names.Name.{Name}
+use Rattle.k_laws.specs.k_types.Names.{heap_eq, leads_to}
+use Rattle.k_laws.specs.k_types.Totals.{total}
+use Rattle.k_laws.specs.k_types.Numbers.{numbers_from}
+use Rattle.k_laws.specs.k_types.Trace.{Trace, process_count}
+use Rattle.k_laws.specs.k_types.State.{State, register}
+use Rattle.k_laws.specs.k_types.Owners.{owner_of, user}
+use Rattle.k_laws.specs.k_types.Updates.{set_register}
+use Rattle.k_laws.specs.k_types.Cells.{book_part, pins, pins_of}
+use Rattle.k_laws.specs.k_types.Sound.{IsSized}
 use Rattle.k_changes.specs.BookChanges.{pins_by, with_pin_moved}
-use Rattle.k_base.proofs.Sums.{bit}
+use Rattle.k_laws.proofs.Sums.{bit}
 
 -- a sum of which one number's part changes
 above_same : (f g : ℕ → ℕ) (p first n : ℕ) → p < first → ((q : ℕ) → q ≢ p → g q ≡ f q) → total g (numbers_from first n) ≡ total f (numbers_from first n)

@@ -1,14 +1,14 @@
 -- The roots of a collection are told by the heap's cell and the book.
 use Rattle.std.proofs.Common.{◌≡◌, ◌||◌, Bool, cond, refl, ap, ap₂, ◌∙◌, List, [], ◌∷◌, map, filter}
-use Rattle.k_types.specs.declared.names.Name.{Name}
-use Rattle.k_types.specs.declared.names.Heap.{Heap}
-use Rattle.k_types.specs.declared.names.Heap.TheVariants.{Kernel, User, Shared}
-use Rattle.k_types.specs.Trace.{Trace}
-use Rattle.k_types.specs.State.{State, Object}
-use Rattle.k_types.specs.Owners.{owner_of, objects_of}
-use Rattle.k_types.specs.Reach.{roots_of, is_root, is_held, is_entered}
-use Rattle.k_types.specs.Cells.{part, book_part}
-use Rattle.k_types.specs.Sound.{IsSound}
+use Rattle.k_laws.specs.k_types.declared.names.Name.{Name}
+use Rattle.k_laws.specs.k_types.declared.names.Heap.{Heap}
+use Rattle.k_laws.specs.k_types.declared.names.Heap.TheVariants.{Kernel, User, Shared}
+use Rattle.k_laws.specs.k_types.Trace.{Trace}
+use Rattle.k_laws.specs.k_types.State.{State, Object}
+use Rattle.k_laws.specs.k_types.Owners.{owner_of, objects_of}
+use Rattle.k_laws.specs.k_types.Reach.{roots_of, is_root, is_held, is_entered}
+use Rattle.k_laws.specs.k_types.Cells.{part, book_part}
+use Rattle.k_laws.specs.k_types.Sound.{IsSound}
 use Rattle.k_changes.specs.Roots.{roots_in, entered_in, held_by}
 use Rattle.k_laws.proofs.Entered.{entered_counted}
 

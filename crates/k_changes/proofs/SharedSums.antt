@@ -2,12 +2,12 @@
 use Rattle.std.proofs.Common.{◌≡◌, ℕ, ◌+◌, ◌<◌, ◌==◌, Bool, true, false, cond, refl, sym, ap, ap₂, ◌∙◌, List, [], ◌∷◌, filter, arith, eqb-true, eq-eqb, IsTrue}
 use Rattle.std.proofs.lemmas.Bool.{and_from, or_left, or_right}
 use Rattle.std.proofs.lemmas.Bool.Decides.{nat_tests}
-use Rattle.k_types.specs.Totals.{total}
-use Rattle.k_types.specs.Numbers.{numbers_below}
-use Rattle.k_types.specs.State.{Sharing, has_share}
-use Rattle.k_types.specs.Sound.{AreDistinctShares}
-use Rattle.k_base.proofs.Sums.{sum-filter, one_counts, both_or}
-use Rattle.k_base.proofs.Sums.{zeros, sum_both, sum_same}
+use Rattle.k_laws.specs.k_types.Totals.{total}
+use Rattle.k_laws.specs.k_types.Numbers.{numbers_below}
+use Rattle.k_laws.specs.k_types.State.{Sharing, has_share}
+use Rattle.k_laws.specs.k_types.Sound.{AreDistinctShares}
+use Rattle.k_laws.proofs.Sums.{sum-filter, one_counts, both_or}
+use Rattle.k_laws.proofs.Sums.{zeros, sum_both, sum_same}
 
 one_heap : (f : ℕ → ℕ) (s n : ℕ) → s < n → total (λ t. cond (s == t) (f t) 0) (numbers_below n) ≡ f s
 one_heap f s n inside =

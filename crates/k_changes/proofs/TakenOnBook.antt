@@ -3,29 +3,29 @@ use Rattle.std.proofs.Common.{◌≡◌, ◌⊎◌, ℕ, ◌+◌, ◌-◌, ◌==
 use Rattle.std.proofs.Math.Path.{fun_ext}
 use Rattle.std.proofs.lemmas.Bool.{false≢true, or_parts}
 use Rattle.std.proofs.lemmas.Bool.Decides.{nat_tests}
-use Rattle.k_types.specs.declared.names.Name.{Name}
-use Rattle.k_types.specs.declared.names.Heap.{Heap}
-use Rattle.k_types.specs.declared.names.Heap.TheVariants.{Kernel}
-use Rattle.k_types.specs.Names.{heap_eq, among}
-use Rattle.k_types.specs.Totals.{total}
-use Rattle.k_types.specs.Numbers.{numbers_below}
-use Rattle.k_types.specs.Trace.{Trace, process_count}
-use Rattle.k_types.specs.State.{State, ExitItem, Sharing, has_exit}
-use Rattle.k_types.specs.Owners.{owner_of, user, shared, bytes_by, bytes_of, charge_of, object_bytes}
-use Rattle.k_types.specs.Limits.{direct_by}
-use Rattle.k_types.specs.Updates.{set_phase, keep_exits}
-use Rattle.k_types.specs.Effects.{after_absorbed, stays_after_absorb}
-use Rattle.k_types.specs.Steps.{has_sharer}
-use Rattle.k_types.specs.Cells.{book_part, part, entries, pins, pins_of}
-use Rattle.k_types.specs.Sound.{IsSound}
+use Rattle.k_laws.specs.k_types.declared.names.Name.{Name}
+use Rattle.k_laws.specs.k_types.declared.names.Heap.{Heap}
+use Rattle.k_laws.specs.k_types.declared.names.Heap.TheVariants.{Kernel}
+use Rattle.k_laws.specs.k_types.Names.{heap_eq, among}
+use Rattle.k_laws.specs.k_types.Totals.{total}
+use Rattle.k_laws.specs.k_types.Numbers.{numbers_below}
+use Rattle.k_laws.specs.k_types.Trace.{Trace, process_count}
+use Rattle.k_laws.specs.k_types.State.{State, ExitItem, Sharing, has_exit}
+use Rattle.k_laws.specs.k_types.Owners.{owner_of, user, shared, bytes_by, bytes_of, charge_of, object_bytes}
+use Rattle.k_laws.specs.k_types.Limits.{direct_by}
+use Rattle.k_laws.specs.k_types.Updates.{set_phase, keep_exits}
+use Rattle.k_laws.specs.k_types.Effects.{after_absorbed, stays_after_absorb}
+use Rattle.k_laws.specs.k_types.Steps.{has_sharer}
+use Rattle.k_laws.specs.k_types.Cells.{book_part, part, entries, pins, pins_of}
+use Rattle.k_laws.specs.k_types.Sound.{IsSound}
 use Rattle.k_laws.specs.Changes.{MayAbsorb}
 use Rattle.k_changes.specs.BookChanges.{when_taken}
 use Rattle.k_changes.proofs.OnBook.{map_changed}
 use Rattle.k_changes.proofs.EntryCounts.{entries_left}
 use Rattle.k_changes.proofs.GivenAway.{nothing_owned}
-use Rattle.k_base.proofs.Sums.{bit, sum_same}
+use Rattle.k_laws.proofs.Sums.{bit, sum_same}
 use Rattle.k_laws.proofs.ElsewhereOther.{owned_agree}
-use Rattle.k_base.proofs.NameTests.{heap_eq-true, heap_eq_refl, heap_eq_sym}
+use Rattle.k_laws.proofs.NameTests.{heap_eq-true, heap_eq_refl, heap_eq_sym}
 use Rattle.k_laws.proofs.Merge.{merged}
 use Rattle.k_laws.proofs.SoundAbsorbed.{is_merged, to_kernel}
 

@@ -1,27 +1,27 @@
 -- What a step reads is told by the parts of the cells that it touches and of the book.
 use Rattle.std.proofs.Common.{◌≡◌, ℕ, ◌+◌, ◌<◌, nat_lt, ◌==◌, Bool, cond, refl, ap, ap₂, ◌∙◌, List, [], ◌∷◌, find, length, Some, None, get_or, arith, IsTrue, eq-eqb, ◌&&◌, ◌-◌, Option}
 use Rattle.std.proofs.lemmas.Bool.{or_left, or_right}
-use Rattle.k_types.specs.declared.names.Name.{Name}
-use Rattle.k_types.specs.declared.names.Heap.{Heap}
-use Rattle.k_types.specs.Names.{heap_eq, among}
-use Rattle.k_types.specs.TraceRules.{AreLimits}
-use Rattle.k_types.specs.Trace.{Trace, row_of}
-use Rattle.k_types.specs.State.{State, object_at, register}
-use Rattle.k_types.specs.Owners.{owner_of, user, shared, bytes_by, bytes_of}
-use Rattle.k_types.specs.Limits.{full_limit, limits_in, max_of, path_of, use_of, full_above, full_for}
-use Rattle.k_types.specs.Updates.{next_name}
-use Rattle.k_types.specs.Cells.{part, book_part, use_shown}
+use Rattle.k_laws.specs.k_types.declared.names.Name.{Name}
+use Rattle.k_laws.specs.k_types.declared.names.Heap.{Heap}
+use Rattle.k_laws.specs.k_types.Names.{heap_eq, among}
+use Rattle.k_laws.specs.k_types.TraceRules.{AreLimits}
+use Rattle.k_laws.specs.k_types.Trace.{Trace, row_of}
+use Rattle.k_laws.specs.k_types.State.{State, object_at, register}
+use Rattle.k_laws.specs.k_types.Owners.{owner_of, user, shared, bytes_by, bytes_of}
+use Rattle.k_laws.specs.k_types.Limits.{full_limit, limits_in, max_of, path_of, use_of, full_above, full_for}
+use Rattle.k_laws.specs.k_types.Updates.{next_name}
+use Rattle.k_laws.specs.k_types.Cells.{part, book_part, use_shown}
 use Rattle.k_laws.specs.PartUpdates.{held_in}
 use Rattle.k_changes.specs.CellChanges.{given, next_name_in}
 use Rattle.k_changes.specs.BookChanges.{bytes_in}
 use Rattle.k_changes.specs.Told.{full_limit_in, limits_shown, full_above_in, full_for_in}
-use Rattle.k_base.proofs.Charges.{path_low}
-use Rattle.k_base.proofs.Maxima.{length_in, tree_in}
-use Rattle.k_base.proofs.NameTests.{heap_eq-same}
-use Rattle.k_base.proofs.Objects.{object_at-kept}
+use Rattle.k_laws.proofs.Charges.{path_low}
+use Rattle.k_laws.proofs.Maxima.{length_in, tree_in}
+use Rattle.k_laws.proofs.NameTests.{heap_eq-same}
+use Rattle.k_laws.proofs.Objects.{object_at-kept}
 use Rattle.k_laws.proofs.UseShown.{use_is_shown}
-use Rattle.k_base.proofs.Lists.{get_mapped}
-use Rattle.k_types.specs.declared.names.LimitId.{LimitId}
+use Rattle.k_laws.proofs.Lists.{get_mapped}
+use Rattle.k_laws.specs.k_types.declared.names.LimitId.{LimitId}
 
 -- an object is found in its owner's cell
 pub object_told : (trace : Trace) (st : State) (c : Heap) (x : Name) → owner_of trace st x.seg.0 ≡ c → object_at (part trace st c).objects x ≡ object_at st.objects x

@@ -2,23 +2,23 @@
 use Rattle.std.proofs.Common.{◌≡◌, ℕ, ◌==◌, ◌&&◌, ◌||◌, not, true, refl, sym, ap, ap₂, ◌∙◌, inl, inr, List, [], ◌∷◌, Option, Some, None, eq-eqb, ne_eqb, IsTrue}
 use Rattle.std.specs.List.{list_any}
 use Rattle.std.proofs.lemmas.Bool.{false≢true, cases_eq, or_cases, or_left, or_right, and_parts, and_from}
-use Rattle.k_types.specs.declared.names.Name.{Name}
-use Rattle.k_types.specs.Names.{heap_eq, name_eq}
-use Rattle.k_types.specs.Trace.{Trace}
-use Rattle.k_types.specs.State.{State, Object, Content, Refers, Holds, content_leads_to, refers, has_exit, scan_of}
-use Rattle.k_types.specs.Owners.{owner_of, user, shared, phase_of}
-use Rattle.k_types.specs.Reach.{reach_in}
-use Rattle.k_types.specs.Replies.{is_populating}
-use Rattle.k_types.specs.Effects.{share_stays, exit_stays, open_roots, register_lies_in, registers_of, lies_in}
-use Rattle.k_types.specs.Cells.{part, book_part}
-use Rattle.k_types.specs.Sound.{IsSound}
+use Rattle.k_laws.specs.k_types.declared.names.Name.{Name}
+use Rattle.k_laws.specs.k_types.Names.{heap_eq, name_eq}
+use Rattle.k_laws.specs.k_types.Trace.{Trace}
+use Rattle.k_laws.specs.k_types.State.{State, Object, Content, Refers, Holds, content_leads_to, refers, has_exit, scan_of}
+use Rattle.k_laws.specs.k_types.Owners.{owner_of, user, shared, phase_of}
+use Rattle.k_laws.specs.k_types.Reach.{reach_in}
+use Rattle.k_laws.specs.k_types.Replies.{is_populating}
+use Rattle.k_laws.specs.k_types.Effects.{share_stays, exit_stays, open_roots, register_lies_in, registers_of, lies_in}
+use Rattle.k_laws.specs.k_types.Cells.{part, book_part}
+use Rattle.k_laws.specs.k_types.Sound.{IsSound}
 use Rattle.k_changes.specs.BookChanges.{leads_into, content_into, has_way_into}
-use Rattle.k_base.proofs.Lists.{any_weaker, any_same}
-use Rattle.k_base.proofs.NameTests.{name_eq-true, name_eq_refl, heap_eq-true, heap_eq_refl, heap_eq-same}
+use Rattle.k_laws.proofs.Lists.{any_weaker, any_same}
+use Rattle.k_laws.proofs.NameTests.{name_eq-true, name_eq_refl, heap_eq-true, heap_eq_refl, heap_eq-same}
 use Rattle.k_laws.proofs.Means.{reach_is, reached_refers}
 use Rattle.k_laws.proofs.Surviving.{exit_into, into_exit, exits_after, leads_into as item_into}
 use Rattle.k_laws.proofs.Turned.{some_element}
-use Rattle.k_base.proofs.Tests.{same_test}
+use Rattle.k_laws.proofs.Tests.{same_test}
 
 register_same : (trace : Trace) (st : State) (t : ℕ) (r : Option Name) → register_lies_in trace st t r ≡ leads_into (owner_of trace st) t r
 register_same trace st t None = refl

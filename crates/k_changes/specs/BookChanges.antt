@@ -1,20 +1,20 @@
 -- What changes of the state change in the book's part, as functions of parts alone.
 use Rattle.std.specs.Prelude.{ℕ, ◌+◌, ◌-◌, ◌==◌, ◌&&◌, ◌||◌, nat_le, not, Bool, true, false, List, [], slice_index_or, slice_set, Option, Some, None, if◌then◌else◌}
 use Rattle.std.specs.List.{list_any}
-use Rattle.k_types.specs.declared.names.Name.{Name}
-use Rattle.k_types.specs.declared.names.Heap.{Heap}
-use Rattle.k_types.specs.declared.names.Heap.TheVariants.{Kernel}
-use Rattle.k_types.specs.declared.names.Phase.{Phase}
-use Rattle.k_types.specs.declared.names.Phase.TheVariants.{Absorbed}
-use Rattle.k_types.specs.Names.{name_eq, heap_eq, leads_to}
-use Rattle.k_types.specs.Totals.{total}
-use Rattle.k_types.specs.Numbers.{numbers_below}
-use Rattle.k_types.specs.Trace.{Trace, process_count, limit_of}
-use Rattle.k_types.specs.State.{Content, Refers, Holds, refers}
-use Rattle.k_types.specs.Owners.{user, shared, owner_of_shared, object_bytes, phase_of}
-use Rattle.k_types.specs.Reach.{is_shared_heap}
-use Rattle.k_types.specs.Replies.{is_populating}
-use Rattle.k_types.specs.Cells.{BookPart, CellPart, ProcessPart, pins_of}
+use Rattle.k_laws.specs.k_types.declared.names.Name.{Name}
+use Rattle.k_laws.specs.k_types.declared.names.Heap.{Heap}
+use Rattle.k_laws.specs.k_types.declared.names.Heap.TheVariants.{Kernel}
+use Rattle.k_laws.specs.k_types.declared.names.Phase.{Phase}
+use Rattle.k_laws.specs.k_types.declared.names.Phase.TheVariants.{Absorbed}
+use Rattle.k_laws.specs.k_types.Names.{name_eq, heap_eq, leads_to}
+use Rattle.k_laws.specs.k_types.Totals.{total}
+use Rattle.k_laws.specs.k_types.Numbers.{numbers_below}
+use Rattle.k_laws.specs.k_types.Trace.{Trace, process_count, limit_of}
+use Rattle.k_laws.specs.k_types.State.{Content, Refers, Holds, refers}
+use Rattle.k_laws.specs.k_types.Owners.{user, shared, owner_of_shared, object_bytes, phase_of}
+use Rattle.k_laws.specs.k_types.Reach.{is_shared_heap}
+use Rattle.k_laws.specs.k_types.Replies.{is_populating}
+use Rattle.k_laws.specs.k_types.Cells.{BookPart, CellPart, ProcessPart, pins_of}
 use Rattle.k_changes.specs.CellChanges.{reached_in, collected}
 
 -- the owner of a segment, as the book tells it

@@ -1,17 +1,17 @@
 -- What changes of the state change in the part of a cell, as functions of parts alone.
 use Rattle.std.specs.Prelude.{ℕ, ◌+◌, ◌==◌, ◌&&◌, ◌||◌, not, true, false, List, [], ◌∷◌, map, filter, replicate, Option, Some, None, unwrap_or, option_map, if◌then◌else◌}
 use Rattle.std.specs.List.{list_any}
-use Rattle.k_types.specs.declared.names.Name.{Name}
-use Rattle.k_types.specs.declared.names.TypeId.{TypeId}
-use Rattle.k_types.specs.declared.names.Field.{Field}
-use Rattle.k_types.specs.declared.names.Heap.{Heap}
-use Rattle.k_types.specs.declared.names.Phase.{Phase}
-use Rattle.k_types.specs.declared.names.Phase.TheVariants.{Absorbed}
-use Rattle.k_types.specs.Names.{name_eq, heap_eq}
-use Rattle.k_types.specs.State.{Object, fresh, has, refers}
-use Rattle.k_types.specs.Reach.{reach_among, is_shared_heap}
-use Rattle.k_types.specs.Updates.{with_object}
-use Rattle.k_types.specs.Cells.{CellPart, ProcessPart}
+use Rattle.k_laws.specs.k_types.declared.names.Name.{Name}
+use Rattle.k_laws.specs.k_types.declared.names.TypeId.{TypeId}
+use Rattle.k_laws.specs.k_types.declared.names.Field.{Field}
+use Rattle.k_laws.specs.k_types.declared.names.Heap.{Heap}
+use Rattle.k_laws.specs.k_types.declared.names.Phase.{Phase}
+use Rattle.k_laws.specs.k_types.declared.names.Phase.TheVariants.{Absorbed}
+use Rattle.k_laws.specs.k_types.Names.{name_eq, heap_eq}
+use Rattle.k_laws.specs.k_types.State.{Object, fresh, has, refers}
+use Rattle.k_laws.specs.k_types.Reach.{reach_among, is_shared_heap}
+use Rattle.k_laws.specs.k_types.Updates.{with_object}
+use Rattle.k_laws.specs.k_types.Cells.{CellPart, ProcessPart}
 
 -- the serials given in a segment; none where the heap doesn't own it
 abbrev pub given : Option ℕ → ℕ

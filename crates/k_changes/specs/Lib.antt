@@ -5,3 +5,5 @@ pub mod Told
 pub use Rattle.k_laws.specs.Changes
 pub use Rattle.k_laws.specs.Charges
 pub use Rattle.k_laws.specs.PartUpdates
+pub use Rattle.k_laws.specs.k_frame
+pub use Rattle.k_laws.specs.k_types

@@ -1,11 +1,11 @@
 -- The roots of a collection, as the heap's cell and the book tell them.
 use Rattle.std.specs.Prelude.{nat_lt, ◌||◌, Bool, false, List, map, filter}
 use Rattle.std.specs.List.{list_any}
-use Rattle.k_types.specs.declared.names.Name.{Name}
-use Rattle.k_types.specs.declared.names.Heap.{Heap}
-use Rattle.k_types.specs.declared.names.Heap.TheVariants.{Kernel, User, Shared}
-use Rattle.k_types.specs.Names.{name_eq, leads_to, directory}
-use Rattle.k_types.specs.Cells.{BookPart, CellPart}
+use Rattle.k_laws.specs.k_types.declared.names.Name.{Name}
+use Rattle.k_laws.specs.k_types.declared.names.Heap.{Heap}
+use Rattle.k_laws.specs.k_types.declared.names.Heap.TheVariants.{Kernel, User, Shared}
+use Rattle.k_laws.specs.k_types.Names.{name_eq, leads_to, directory}
+use Rattle.k_laws.specs.k_types.Cells.{BookPart, CellPart}
 use Rattle.k_changes.specs.BookChanges.{registers_in}
 
 -- some heap has an exit item to the object, or a register of another process holds it

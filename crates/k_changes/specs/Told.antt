@@ -1,10 +1,10 @@
 -- What the book's part tells of limits.
 use Rattle.std.specs.Prelude.{ℕ, ◌+◌, nat_lt, find, List, Option, ◌&&◌, ◌-◌, Some, None, if◌then◌else◌}
-use Rattle.k_types.specs.declared.setup.LimitRow.{LimitRow}
-use Rattle.k_types.specs.Trace.{Trace, row_of}
-use Rattle.k_types.specs.Limits.{with_maxima, max_of, path_of}
-use Rattle.k_types.specs.Cells.{BookPart, use_shown}
-use Rattle.k_types.specs.declared.names.LimitId.{LimitId}
+use Rattle.k_laws.specs.k_types.declared.setup.LimitRow.{LimitRow}
+use Rattle.k_laws.specs.k_types.Trace.{Trace, row_of}
+use Rattle.k_laws.specs.k_types.Limits.{with_maxima, max_of, path_of}
+use Rattle.k_laws.specs.k_types.Cells.{BookPart, use_shown}
+use Rattle.k_laws.specs.k_types.declared.names.LimitId.{LimitId}
 
 -- the limits with the maxima that the book has
 abbrev pub limits_shown : Trace → BookPart → List LimitRow

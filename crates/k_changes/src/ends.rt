@@ -2,16 +2,16 @@
 ghost use Rattle.std.specs.Prelude.{IsFalse, List, Some, ◌≡◌, ℕ};
 ghost use Rattle.k_changes.specs.BookChanges.{charge_in, drops, when_collected, when_ended, when_taken, without_entries};
 ghost use Rattle.k_laws.specs.Changes.{MayAbsorb, MayExit};
-ghost use Rattle.k_types.specs.Cells.{book_part, part};
-ghost use Rattle.k_types.specs.Effects.{after_absorbed, after_end_of, after_ended};
-ghost use Rattle.k_types.specs.Names.{among};
-ghost use Rattle.k_types.specs.Owners.{charge_of, owner_of, shared, user};
-ghost use Rattle.k_types.specs.Sound.{IsSound};
-ghost use Rattle.k_types.specs.State.{State, scan_of};
-ghost use Rattle.k_types.specs.Trace.{Trace};
-ghost use Rattle.k_types.specs.TraceRules.{AreLimits};
-ghost use Rattle.k_types.specs.declared.names.Heap.TheVariants.{Kernel};
-ghost use Rattle.k_types.specs.declared.names.Name.{Name};
+ghost use Rattle.k_laws.specs.k_types.Cells.{book_part, part};
+ghost use Rattle.k_laws.specs.k_types.Effects.{after_absorbed, after_end_of, after_ended};
+ghost use Rattle.k_laws.specs.k_types.Names.{among};
+ghost use Rattle.k_laws.specs.k_types.Owners.{charge_of, owner_of, shared, user};
+ghost use Rattle.k_laws.specs.k_types.Sound.{IsSound};
+ghost use Rattle.k_laws.specs.k_types.State.{State, scan_of};
+ghost use Rattle.k_laws.specs.k_types.Trace.{Trace};
+ghost use Rattle.k_laws.specs.k_types.TraceRules.{AreLimits};
+ghost use Rattle.k_laws.specs.k_types.declared.names.Heap.TheVariants.{Kernel};
+ghost use Rattle.k_laws.specs.k_types.declared.names.Name.{Name};
 
 /// What a living process is charged is told by its cell's part and the book's.
 pub fn the_charge_is_told()

@@ -2,17 +2,17 @@
 ghost use Rattle.std.specs.Prelude.{IsFalse, List, ◌≡◌, ℕ};
 ghost use Rattle.k_changes.specs.CellChanges.{at_its_end, collected, taking_in, when_absorbed, with_scan};
 ghost use Rattle.k_laws.specs.Changes.{MayAbsorb, MayExit};
-ghost use Rattle.k_types.specs.Cells.{Cell, book_part, part};
-ghost use Rattle.k_types.specs.Effects.{after_absorbed, after_end_of, after_ended};
-ghost use Rattle.k_types.specs.Names.{heap_eq};
-ghost use Rattle.k_types.specs.Owners.{owner_of, shared, user};
-ghost use Rattle.k_types.specs.Sound.{IsSound};
-ghost use Rattle.k_types.specs.State.{State};
-ghost use Rattle.k_types.specs.Trace.{Trace};
-ghost use Rattle.k_types.specs.Updates.{open_scan};
-ghost use Rattle.k_types.specs.declared.names.Heap.{Heap};
-ghost use Rattle.k_types.specs.declared.names.Heap.TheVariants.{Kernel};
-ghost use Rattle.k_types.specs.declared.names.Name.{Name};
+ghost use Rattle.k_laws.specs.k_types.Cells.{Cell, book_part, part};
+ghost use Rattle.k_laws.specs.k_types.Effects.{after_absorbed, after_end_of, after_ended};
+ghost use Rattle.k_laws.specs.k_types.Names.{heap_eq};
+ghost use Rattle.k_laws.specs.k_types.Owners.{owner_of, shared, user};
+ghost use Rattle.k_laws.specs.k_types.Sound.{IsSound};
+ghost use Rattle.k_laws.specs.k_types.State.{State};
+ghost use Rattle.k_laws.specs.k_types.Trace.{Trace};
+ghost use Rattle.k_laws.specs.k_types.Updates.{open_scan};
+ghost use Rattle.k_laws.specs.k_types.declared.names.Heap.{Heap};
+ghost use Rattle.k_laws.specs.k_types.declared.names.Heap.TheVariants.{Kernel};
+ghost use Rattle.k_laws.specs.k_types.declared.names.Name.{Name};
 
 /// A collection that begins shows in its heap's cell alone.
 pub fn what_the_beginning_of_a_collection_changes()

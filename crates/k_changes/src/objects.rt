@@ -2,21 +2,21 @@
 ghost use Rattle.std.specs.Prelude.{IsFalse, List, length, not, ◌+◌, ◌<◌, ◌≡◌, ℕ};
 ghost use Rattle.k_changes.specs.BookChanges.{with_charge, with_entry, with_shared_bytes};
 ghost use Rattle.k_changes.specs.CellChanges.{with_created, with_exit_to};
-ghost use Rattle.k_types.specs.Cells.{Cell, book_part, part};
-ghost use Rattle.k_types.specs.Names.{among, heap_eq};
-ghost use Rattle.k_types.specs.Owners.{owner_of, phase_of};
+ghost use Rattle.k_laws.specs.k_types.Cells.{Cell, book_part, part};
+ghost use Rattle.k_laws.specs.k_types.Names.{among, heap_eq};
+ghost use Rattle.k_laws.specs.k_types.Owners.{owner_of, phase_of};
 ghost use Rattle.k_laws.specs.PartUpdates.{with_written};
-ghost use Rattle.k_types.specs.Sound.{IsOrdered, IsSound};
-ghost use Rattle.k_types.specs.State.{Content, State, has_exit};
-ghost use Rattle.k_types.specs.Trace.{Trace, kinds_of, limit_of, process_count, size_of_type};
-ghost use Rattle.k_types.specs.TraceRules.{AreLimits};
-ghost use Rattle.k_types.specs.Updates.{add_exit, create, write};
-ghost use Rattle.k_types.specs.declared.names.Field.{Field};
-ghost use Rattle.k_types.specs.declared.names.Heap.{Heap};
-ghost use Rattle.k_types.specs.declared.names.Name.{Name};
-ghost use Rattle.k_types.specs.declared.names.Phase.TheVariants.{Populating};
-ghost use Rattle.k_types.specs.declared.names.Pid.{Pid};
-ghost use Rattle.k_types.specs.declared.names.TypeId.{TypeId};
+ghost use Rattle.k_laws.specs.k_types.Sound.{IsOrdered, IsSound};
+ghost use Rattle.k_laws.specs.k_types.State.{Content, State, has_exit};
+ghost use Rattle.k_laws.specs.k_types.Trace.{Trace, kinds_of, limit_of, process_count, size_of_type};
+ghost use Rattle.k_laws.specs.k_types.TraceRules.{AreLimits};
+ghost use Rattle.k_laws.specs.k_types.Updates.{add_exit, create, write};
+ghost use Rattle.k_laws.specs.k_types.declared.names.Field.{Field};
+ghost use Rattle.k_laws.specs.k_types.declared.names.Heap.{Heap};
+ghost use Rattle.k_laws.specs.k_types.declared.names.Name.{Name};
+ghost use Rattle.k_laws.specs.k_types.declared.names.Phase.TheVariants.{Populating};
+ghost use Rattle.k_laws.specs.k_types.declared.names.Pid.{Pid};
+ghost use Rattle.k_laws.specs.k_types.declared.names.TypeId.{TypeId};
 
 /// A field that is written shows in the cell of the object's owner, and nowhere else.
 pub fn what_a_write_changes()

@@ -1,15 +1,15 @@
 //! What setting and clearing registers changes in the parts.
 ghost use Rattle.std.specs.Prelude.{IsFalse, Option, length, ◌<◌, ◌≡◌, ℕ};
 ghost use Rattle.k_changes.specs.BookChanges.{owner_in, with_pin_moved};
-ghost use Rattle.k_types.specs.Cells.{Cell, book_part, part};
-ghost use Rattle.k_types.specs.Names.{heap_eq};
-ghost use Rattle.k_types.specs.Owners.{owner_of, user};
+ghost use Rattle.k_laws.specs.k_types.Cells.{Cell, book_part, part};
+ghost use Rattle.k_laws.specs.k_types.Names.{heap_eq};
+ghost use Rattle.k_laws.specs.k_types.Owners.{owner_of, user};
 ghost use Rattle.k_laws.specs.PartUpdates.{with_done, with_register};
-ghost use Rattle.k_types.specs.Sound.{IsSized};
-ghost use Rattle.k_types.specs.State.{State, register};
-ghost use Rattle.k_types.specs.Trace.{Trace, process_count};
-ghost use Rattle.k_types.specs.Updates.{count_done, set_register};
-ghost use Rattle.k_types.specs.declared.names.Name.{Name};
+ghost use Rattle.k_laws.specs.k_types.Sound.{IsSized};
+ghost use Rattle.k_laws.specs.k_types.State.{State, register};
+ghost use Rattle.k_laws.specs.k_types.Trace.{Trace, process_count};
+ghost use Rattle.k_laws.specs.k_types.Updates.{count_done, set_register};
+ghost use Rattle.k_laws.specs.k_types.declared.names.Name.{Name};
 
 /// The book's part tells who owns each segment.
 pub fn the_book_tells_the_owners()

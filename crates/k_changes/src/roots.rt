@@ -1,12 +1,12 @@
 //! The roots of a heap, by the parts of its cell and of the book.
 ghost use Rattle.std.specs.Prelude.{◌≡◌};
 ghost use Rattle.k_changes.specs.Roots.{roots_in};
-ghost use Rattle.k_types.specs.Cells.{book_part, part};
-ghost use Rattle.k_types.specs.Reach.{roots_of};
-ghost use Rattle.k_types.specs.Sound.{IsSound};
-ghost use Rattle.k_types.specs.State.{State};
-ghost use Rattle.k_types.specs.Trace.{Trace};
-ghost use Rattle.k_types.specs.declared.names.Heap.{Heap};
+ghost use Rattle.k_laws.specs.k_types.Cells.{book_part, part};
+ghost use Rattle.k_laws.specs.k_types.Reach.{roots_of};
+ghost use Rattle.k_laws.specs.k_types.Sound.{IsSound};
+ghost use Rattle.k_laws.specs.k_types.State.{State};
+ghost use Rattle.k_laws.specs.k_types.Trace.{Trace};
+ghost use Rattle.k_laws.specs.k_types.declared.names.Heap.{Heap};
 
 /// A collection begins from its own heap's cell and the book: its roots are those objects of the cell that the book's entries or
 /// pins tell to be entered, or that the heap's process holds, and for the kernel the directory.

@@ -2,14 +2,14 @@
 ghost use Rattle.std.specs.Prelude.{IsFalse, IsTrue, length, slice_index_or, ◌<◌, ◌≡◌, ℕ};
 ghost use Rattle.k_changes.specs.BookChanges.{when_closed, with_charge, with_phase, with_share, with_max};
 ghost use Rattle.k_changes.specs.CellChanges.{in_phase};
-ghost use Rattle.k_types.specs.Cells.{Cell, book_part, part};
-ghost use Rattle.k_types.specs.Names.{among, heap_eq};
-ghost use Rattle.k_types.specs.Owners.{is_absorbed, phase_of, shared};
-ghost use Rattle.k_types.specs.State.{State, has_share};
-ghost use Rattle.k_types.specs.Trace.{Trace, limit_of, process_count};
-ghost use Rattle.k_types.specs.TraceRules.{AreLimits};
-ghost use Rattle.k_types.specs.Updates.{add_share, close, set_phase, set_max};
-ghost use Rattle.k_types.specs.declared.names.Phase.{Phase};
+ghost use Rattle.k_laws.specs.k_types.Cells.{Cell, book_part, part};
+ghost use Rattle.k_laws.specs.k_types.Names.{among, heap_eq};
+ghost use Rattle.k_laws.specs.k_types.Owners.{is_absorbed, phase_of, shared};
+ghost use Rattle.k_laws.specs.k_types.State.{State, has_share};
+ghost use Rattle.k_laws.specs.k_types.Trace.{Trace, limit_of, process_count};
+ghost use Rattle.k_laws.specs.k_types.TraceRules.{AreLimits};
+ghost use Rattle.k_laws.specs.k_types.Updates.{add_share, close, set_phase, set_max};
+ghost use Rattle.k_laws.specs.k_types.declared.names.Phase.{Phase};
 
 /// A phase that is set, and makes the heap neither absorbed nor unabsorbed, shows in the shared heap's cell and in the book.
 pub fn what_a_phase_changes()

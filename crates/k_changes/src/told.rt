@@ -3,15 +3,15 @@ ghost use Rattle.std.specs.Prelude.{length, slice_index_or, ◌<◌, ◌≡◌, 
 ghost use Rattle.k_changes.specs.BookChanges.{bytes_in};
 ghost use Rattle.k_changes.specs.CellChanges.{next_name_in};
 ghost use Rattle.k_changes.specs.Told.{full_limit_in, full_for_in};
-ghost use Rattle.k_types.specs.Cells.{Cell, book_part, part};
-ghost use Rattle.k_types.specs.Limits.{full_limit, full_for};
-ghost use Rattle.k_types.specs.Owners.{bytes_of, owner_of, shared, user};
+ghost use Rattle.k_laws.specs.k_types.Cells.{Cell, book_part, part};
+ghost use Rattle.k_laws.specs.k_types.Limits.{full_limit, full_for};
+ghost use Rattle.k_laws.specs.k_types.Owners.{bytes_of, owner_of, shared, user};
 ghost use Rattle.k_laws.specs.PartUpdates.{held_in};
-ghost use Rattle.k_types.specs.State.{State, object_at, register};
-ghost use Rattle.k_types.specs.Trace.{Trace};
-ghost use Rattle.k_types.specs.TraceRules.{AreLimits};
-ghost use Rattle.k_types.specs.Updates.{next_name};
-ghost use Rattle.k_types.specs.declared.names.Name.{Name};
+ghost use Rattle.k_laws.specs.k_types.State.{State, object_at, register};
+ghost use Rattle.k_laws.specs.k_types.Trace.{Trace};
+ghost use Rattle.k_laws.specs.k_types.TraceRules.{AreLimits};
+ghost use Rattle.k_laws.specs.k_types.Updates.{next_name};
+ghost use Rattle.k_laws.specs.k_types.declared.names.Name.{Name};
 
 /// A cell tells what an operation reads of its heap: the objects, and so their fields; the registers of its process; the name of
 /// the next object of a segment; the heap's bytes.

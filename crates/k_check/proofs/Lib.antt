@@ -5,3 +5,5 @@ pub mod Splits
 pub mod Walks
 pub mod Lifted
 pub mod Outcomes
+pub use Rattle.k_solo.proofs.Lines
+pub use Rattle.k_solo.proofs.Unread

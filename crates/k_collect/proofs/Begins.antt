@@ -36,12 +36,12 @@ use Rattle.k_agree.specs.Meeting.{met_note}
 use Rattle.k_agree.proofs.Begun.{begun_gray}
 use Rattle.k_agree.proofs.Commits.{committed}
 use Rattle.k_agree.proofs.Touched.{as_listed}
-use Rattle.k_book.specs.Books.{BookRecord}
-use Rattle.k_heap.specs.Heaps.{HeapRecord}
+use Rattle.k_commit.specs.k_book.Books.{BookRecord}
+use Rattle.k_commit.specs.k_heap.Heaps.{HeapRecord}
 use Rattle.k_lawful.proofs.Laws.{possible_events_are_lawful}
-use Rattle.k_moves.specs.Moves.{noted}
-use Rattle.k_moves.specs.Shown.{ShowsIdle}
-use Rattle.k_moves.proofs.Idle.{book_follows, unscanned}
+use Rattle.k_commit.specs.k_moves.Moves.{noted}
+use Rattle.k_commit.specs.k_moves.Shown.{ShowsIdle}
+use Rattle.k_commit.proofs.Idle.{book_follows, unscanned}
 use Rattle.k_squares.specs.Answers.{answer_in, faults_in, reply_in}
 use Rattle.k_squares.specs.BookAfter.{book_after, book_operated}
 use Rattle.k_squares.specs.CellAfter.{cell_after, cells_operated}
@@ -54,7 +54,7 @@ use Rattle.k_commit.proofs.Placed.{sound_now}
 use Rattle.k_commit.proofs.Setting.{process_known, process_lives}
 use Rattle.k_collect.specs.Begun.{HasBegunHeap}
 use Rattle.k_collect.specs.Collecting.{CanBeginHeap}
-use Rattle.k_cell.specs.Changes.{HasGrayed}
+use Rattle.k_commit.specs.k_cell.Changes.{HasGrayed}
 use Rattle.k_collect.specs.Graying.{is_root_by}
 use Rattle.k_collect.proofs.Roots.{gray_at_roots, registers_all}
 use Rattle.k_frame.proofs.Untouched.{one_counted}

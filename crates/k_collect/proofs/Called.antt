@@ -13,14 +13,14 @@ use Rattle.k_agree.specs.Committing.{journal_after, note_after}
 use Rattle.k_agree.specs.GivingAway.{with_one_done}
 use Rattle.k_agree.specs.Marking.{begun}
 use Rattle.k_agree.specs.Meeting.{met_note}
-use Rattle.k_book.specs.Books.{BookRecord}
-use Rattle.k_cell.specs.Holdings.{HoldingsValue}
-use Rattle.k_heap.specs.Heaps.{HeapRecord}
+use Rattle.k_commit.specs.k_book.Books.{BookRecord}
+use Rattle.k_commit.specs.k_cell.Holdings.{HoldingsValue}
+use Rattle.k_commit.specs.k_heap.Heaps.{HeapRecord}
 use Rattle.k_commit.specs.Met.{CanMeet, FitsTheBook, HeapHasMet, KernelHasMet}
 use Rattle.k_commit.specs.Others.{held_by}
 use Rattle.k_collect.specs.Begun.{HasBegunHeap, HasBegunKernel, HasClosed}
 use Rattle.k_collect.specs.Collecting.{CanBeginHeap, CanBeginKernel, CanClose}
-use Rattle.k_cell.specs.Changes.{HasGrayed}
+use Rattle.k_commit.specs.k_cell.Changes.{HasGrayed}
 use Rattle.k_collect.specs.Graying.{is_root_by}
 use Rattle.k_collect.proofs.Begins.{begun_heap, done_fits, registers_there}
 use Rattle.k_collect.proofs.KernelBegins.{kernel_begins, kernel_closes, kernel_done_fits}

@@ -6,8 +6,8 @@ use Rattle.k_types.specs.declared.names.Name.{Name}
 use Rattle.k_types.specs.Agree.{CellValue}
 use Rattle.k_types.specs.Names.{name_among}
 use Rattle.k_agree.specs.Marking.{begun}
-use Rattle.k_cell.specs.Changes.{HasBegun, HasGrayed}
-use Rattle.k_cell.proofs.Grayed.{among_more, grays_both, grays_more, grays_same}
+use Rattle.k_commit.specs.k_cell.Changes.{HasBegun, HasGrayed}
+use Rattle.k_commit.proofs.Grayed.{among_more, grays_both, grays_more, grays_same}
 use Rattle.k_entry.specs.Copies.{IsCopied}
 use Rattle.k_entry.specs.Entries.{AreEntries, EntryValue, items_of, objects}
 use Rattle.k_entry.proofs.Copied.{copied_whole}

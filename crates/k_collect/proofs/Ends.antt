@@ -31,13 +31,13 @@ use Rattle.k_agree.proofs.Credited.{kernel_settles, user_settles}
 use Rattle.k_agree.proofs.Shared.{kernel_ends, tells_shares}
 use Rattle.k_agree.proofs.Swept.{shows_end}
 use Rattle.k_agree.proofs.Touched.{as_listed}
-use Rattle.k_book.specs.Books.{BookRecord}
-use Rattle.k_book.specs.Calls.{ChangesEntries}
-use Rattle.k_cell.specs.Holdings.{HoldingsValue}
+use Rattle.k_commit.specs.k_book.Books.{BookRecord}
+use Rattle.k_commit.specs.k_book.Calls.{ChangesEntries}
+use Rattle.k_commit.specs.k_cell.Holdings.{HoldingsValue}
 use Rattle.k_changes.specs.BookChanges.{registers_in}
-use Rattle.k_heap.specs.Heaps.{HeapRecord}
+use Rattle.k_commit.specs.k_heap.Heaps.{HeapRecord}
 use Rattle.k_lawful.proofs.Laws.{possible_events_are_lawful}
-use Rattle.k_moves.specs.Moves.{noted}
+use Rattle.k_commit.specs.k_moves.Moves.{noted}
 use Rattle.k_squares.proofs.Laws.{what_is_let_go_is_counted-entries}
 use Rattle.k_commit.specs.Met.{FitsTheBook}
 use Rattle.k_collect.specs.Collecting.{CanEndHeap, CanEndKernel}

@@ -22,10 +22,10 @@ use Rattle.k_laws.proofs.Means.{reach_is}
 use Rattle.k_mark.specs.Listening.{AreTold, times}
 use Rattle.k_agree.specs.Agreement.{Shows}
 use Rattle.k_agree.specs.Ending.{freed_objects}
-use Rattle.k_cell.specs.Changes.{freed_at}
-use Rattle.k_cell.specs.Holdings.{HoldingsValue}
-use Rattle.k_book.specs.Books.{BookRecord}
-use Rattle.k_heap.specs.Heaps.{HeapRecord}
+use Rattle.k_commit.specs.k_cell.Changes.{freed_at}
+use Rattle.k_commit.specs.k_cell.Holdings.{HoldingsValue}
+use Rattle.k_commit.specs.k_book.Books.{BookRecord}
+use Rattle.k_commit.specs.k_heap.Heaps.{HeapRecord}
 use Rattle.k_commit.specs.Met.{HeapHasMet, KernelHasMet}
 use Rattle.k_commit.specs.Others.{held_by}
 use Rattle.k_collect.specs.Freed.{AreFreed, gone_between}

@@ -23,7 +23,7 @@ use Rattle.k_changes.specs.CellChanges.{with_scan}
 use Rattle.k_changes.specs.Roots.{roots_in}
 use Rattle.k_laws.proofs.SoundSteps.{legal_sound}
 use Rattle.k_shares.specs.Sharers.{lowest_orphan}
-use Rattle.k_book.proofs.Telling.{tells}
+use Rattle.k_commit.proofs.Telling.{tells}
 use Rattle.k_frame.specs.PartUpdates.{done_in, with_done}
 use Rattle.k_agree.specs.Agreement.{Shows}
 use Rattle.k_agree.specs.Committing.{CanCommit, IsCommitted, NotedCell, journal_after, note_after}
@@ -32,13 +32,13 @@ use Rattle.k_agree.specs.Marking.{begun}
 use Rattle.k_agree.specs.Meeting.{met_note}
 use Rattle.k_agree.proofs.Commits.{committed}
 use Rattle.k_agree.proofs.Touched.{as_listed}
-use Rattle.k_book.specs.Books.{BookRecord}
-use Rattle.k_cell.specs.Holdings.{HoldingsValue}
-use Rattle.k_heap.specs.Heaps.{HeapRecord}
+use Rattle.k_commit.specs.k_book.Books.{BookRecord}
+use Rattle.k_commit.specs.k_cell.Holdings.{HoldingsValue}
+use Rattle.k_commit.specs.k_heap.Heaps.{HeapRecord}
 use Rattle.k_lawful.proofs.Laws.{possible_events_are_lawful}
-use Rattle.k_moves.specs.Moves.{noted}
-use Rattle.k_moves.specs.Shown.{ShowsIdle}
-use Rattle.k_moves.proofs.Idle.{book_follows, not_open, part_shown, shows_part, unscanned}
+use Rattle.k_commit.specs.k_moves.Moves.{noted}
+use Rattle.k_commit.specs.k_moves.Shown.{ShowsIdle}
+use Rattle.k_commit.proofs.Idle.{book_follows, not_open, part_shown, shows_part, unscanned}
 use Rattle.k_squares.specs.Answers.{answer_in, faults_in, reply_in}
 use Rattle.k_squares.specs.BookAfter.{book_after, book_operated}
 use Rattle.k_squares.specs.CellAfter.{cell_after, cells_operated}
@@ -51,7 +51,7 @@ use Rattle.k_commit.proofs.Placed.{sound_now}
 use Rattle.k_commit.proofs.Setting.{process_known, process_lives}
 use Rattle.k_collect.specs.Begun.{HasBegunKernel, HasClosed}
 use Rattle.k_collect.specs.Collecting.{CanBeginKernel, CanClose}
-use Rattle.k_cell.specs.Changes.{HasGrayed}
+use Rattle.k_commit.specs.k_cell.Changes.{HasGrayed}
 use Rattle.k_collect.specs.Graying.{is_root_by}
 use Rattle.k_collect.proofs.Begins.{gray_right, marks_right}
 use Rattle.k_frame.proofs.Untouched.{one_counted}

@@ -14,7 +14,7 @@ use Rattle.k_tie.specs.Values.{NoteValue}
 use Rattle.k_agree.specs.Agreement.{Agrees, Shows}
 use Rattle.k_agree.proofs.AtTheEnd.{cell_sound}
 use Rattle.k_agree.proofs.Marked.{marked_agrees}
-use Rattle.k_cell.specs.Changes.{HasItsExits, HasMarked}
+use Rattle.k_commit.specs.k_cell.Changes.{HasItsExits, HasMarked}
 use Rattle.k_collect.specs.Marking.{CanMark, HasMarkedOn}
 
 not_owned : {A : Type 0} (b : Bool) (x : A) → not (is_some (cond b (Some x) None)) ≡ true → b ≡ false

@@ -18,11 +18,11 @@ use Rattle.k_base.proofs.Objects.{has-kept, names_have}
 use Rattle.k_agree.specs.Agreement.{BookShows, Shows}
 use Rattle.k_agree.specs.Marking.{begun, idle_part, roots_seen}
 use Rattle.k_agree.proofs.Openings.{home_at}
-use Rattle.k_book.specs.Books.{BookRecord}
+use Rattle.k_commit.specs.k_book.Books.{BookRecord}
 use Rattle.k_changes.specs.BookChanges.{registers_in}
 use Rattle.k_changes.specs.Roots.{entered_in, held_by}
 use Rattle.k_entry.specs.Entries.{home_of}
-use Rattle.k_cell.specs.Changes.{HasGrayed}
+use Rattle.k_commit.specs.k_cell.Changes.{HasGrayed}
 use Rattle.k_collect.specs.Graying.{is_root_by}
 
 listed : (p : Name → Bool) (objects : List Object) (n : Name) → name_among n (map (λ (o : Object). o.name) (filter (λ o. p o.name) objects)) ≡ (has objects n && p n)

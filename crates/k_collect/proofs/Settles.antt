@@ -10,10 +10,10 @@ use Rattle.k_types.specs.declared.names.Pid.{Pid}
 use Rattle.k_types.specs.Agree.{CellValue}
 use Rattle.k_types.specs.Trace.{Trace, process_count}
 use Rattle.k_agree.specs.Meeting.{HasMet}
-use Rattle.k_book.specs.Books.{BookRecord, pin_room_of}
-use Rattle.k_book.specs.Machine.{IsBookOf}
-use Rattle.k_cell.specs.Holdings.{HoldingsValue}
-use Rattle.k_heap.specs.Heaps.{HeapRecord}
+use Rattle.k_commit.specs.k_book.Books.{BookRecord, pin_room_of}
+use Rattle.k_commit.specs.k_book.Machine.{IsBookOf}
+use Rattle.k_commit.specs.k_cell.Holdings.{HoldingsValue}
+use Rattle.k_commit.specs.k_heap.Heaps.{HeapRecord}
 use Rattle.k_commit.specs.Met.{KernelHasMet}
 use Rattle.k_commit.specs.Others.{held_by}
 use Rattle.k_commit.specs.Published.{CanPublish, HasPublished}

@@ -18,11 +18,11 @@ use Rattle.k_agree.specs.Committing.{journal_after, note_after}
 use Rattle.k_agree.specs.Ending.{HasLeft, bytes_unshared, dropped, dropped_exits, dropped_shares, freed_bytes, keeps_way, swept}
 use Rattle.k_agree.specs.Meeting.{Fits, met_note}
 use Rattle.k_agree.proofs.Swept.{among_kept}
-use Rattle.k_book.specs.Books.{BookRecord}
-use Rattle.k_book.specs.Calls.{ChangesEntries}
-use Rattle.k_cell.specs.Changes.{with_black_alone}
-use Rattle.k_cell.specs.Holdings.{HoldingsValue}
-use Rattle.k_heap.specs.Heaps.{HeapRecord}
+use Rattle.k_commit.specs.k_book.Books.{BookRecord}
+use Rattle.k_commit.specs.k_book.Calls.{ChangesEntries}
+use Rattle.k_commit.specs.k_cell.Changes.{with_black_alone}
+use Rattle.k_commit.specs.k_cell.Holdings.{HoldingsValue}
+use Rattle.k_commit.specs.k_heap.Heaps.{HeapRecord}
 use Rattle.k_commit.specs.Met.{FitsTheBook}
 use Rattle.k_commit.proofs.Meetings.{told_by}
 use Rattle.k_collect.specs.Ended.{HasEndedHeap, HasEndedKernel}

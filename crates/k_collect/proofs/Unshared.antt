@@ -7,7 +7,7 @@ use Rattle.k_types.specs.State.{has_share}
 use Rattle.k_base.proofs.Lists.{numbers_length}
 use Rattle.k_base.proofs.Sums.{ones, sum_same, total_at_most}
 use Rattle.k_base.proofs.Tests.{same_test}
-use Rattle.k_book.specs.Books.{BookRecord}
+use Rattle.k_commit.specs.k_book.Books.{BookRecord}
 use Rattle.k_shares.specs.Sharers.{LosesShare}
 use Rattle.k_collect.specs.Unsharing.{CanUnshare, HasUnshared, bytes_lost, shares_lost, ways_left}
 use Rattle.k_base.proofs.Totals.{total_more, first_total}

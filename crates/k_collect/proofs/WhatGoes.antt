@@ -15,10 +15,10 @@ use Rattle.k_types.specs.Trace.{Trace}
 use Rattle.k_base.specs.Distinct.{AreDistinctNames}
 use Rattle.k_tie.specs.Values.{NoteValue}
 use Rattle.k_agree.specs.Ending.{HasLeft, HasSettledWith, dropped, dropped_exits, dropped_shares, freed_bytes, freed_objects, swept}
-use Rattle.k_book.specs.Books.{BookRecord}
-use Rattle.k_book.specs.Calls.{ChangesEntries}
-use Rattle.k_cell.specs.Holdings.{HoldingsValue}
-use Rattle.k_heap.specs.Heaps.{HeapRecord}
+use Rattle.k_commit.specs.k_book.Books.{BookRecord}
+use Rattle.k_commit.specs.k_book.Calls.{ChangesEntries}
+use Rattle.k_commit.specs.k_cell.Holdings.{HoldingsValue}
+use Rattle.k_commit.specs.k_heap.Heaps.{HeapRecord}
 use Rattle.k_commit.specs.Met.{ShowsAfter}
 use Rattle.k_commit.specs.Rooms.{HasEventRoom}
 use Rattle.k_commit.specs.Standing.{BookStands}

@@ -17,9 +17,9 @@ use Rattle.k_types.specs.Trace.{Trace}
 use Rattle.k_frame.specs.PartUpdates.{done_in}
 use Rattle.k_agree.specs.Agreement.{Agrees, BookAgrees}
 use Rattle.k_agree.specs.Meeting.{HasMet}
-use Rattle.k_book.specs.Books.{BookRecord}
-use Rattle.k_cell.specs.Holdings.{HoldingsValue}
-use Rattle.k_heap.specs.Heaps.{HeapRecord}
+use Rattle.k_commit.specs.k_book.Books.{BookRecord}
+use Rattle.k_commit.specs.k_cell.Holdings.{HoldingsValue}
+use Rattle.k_commit.specs.k_heap.Heaps.{HeapRecord}
 use Rattle.k_lawful.specs.Lawful.{IsLawful}
 
 -- the event is possible after the journal, lawful, and its newest; the book is as it was but for its journal and its value, and agrees

@@ -7,9 +7,9 @@ use Rattle.k_types.specs.Trace.{Trace}
 use Rattle.k_agree.specs.Agreement.{Agrees}
 use Rattle.k_agree.specs.Meeting.{Fits}
 use Rattle.k_agree.specs.Settled.{all_ended_in}
-use Rattle.k_book.specs.Books.{BookRecord}
-use Rattle.k_cell.specs.Holdings.{HoldingsValue}
-use Rattle.k_heap.specs.Heaps.{HeapRecord}
+use Rattle.k_commit.specs.k_book.Books.{BookRecord}
+use Rattle.k_commit.specs.k_cell.Holdings.{HoldingsValue}
+use Rattle.k_commit.specs.k_heap.Heaps.{HeapRecord}
 use Rattle.k_shares.specs.Sharers.{lowest_orphan}
 use Rattle.k_commit.specs.Rooms.{HasEventRoom}
 use Rattle.k_commit.specs.Standing.{BookStands, HeapStands, KernelStands}

@@ -13,9 +13,9 @@ use Rattle.k_types.specs.Owners.{objects_of, owner_of}
 use Rattle.k_types.specs.State.{State, has_exit, has_share}
 use Rattle.k_types.specs.Steps.{state_after}
 use Rattle.k_types.specs.Trace.{Trace}
-use Rattle.k_book.specs.Books.{BookRecord}
-use Rattle.k_cell.specs.Holdings.{HoldingsValue}
-use Rattle.k_heap.specs.Heaps.{HeapRecord}
+use Rattle.k_commit.specs.k_book.Books.{BookRecord}
+use Rattle.k_commit.specs.k_cell.Holdings.{HoldingsValue}
+use Rattle.k_commit.specs.k_heap.Heaps.{HeapRecord}
 use Rattle.k_collect.specs.Begun.{HasAppended, HeapGoesOn, KernelGoesOn}
 
 -- the state that the machine's end of the heap's collection leaves

@@ -10,10 +10,10 @@ use Rattle.k_tie.specs.Values.{NoteValue}
 use Rattle.k_agree.specs.Agreement.{Agrees}
 use Rattle.k_agree.specs.Ending.{freed_bytes, freed_objects}
 use Rattle.k_agree.specs.Meeting.{Fits, met_note}
-use Rattle.k_book.specs.Books.{BookRecord}
-use Rattle.k_cell.specs.Changes.{with_black_alone}
-use Rattle.k_cell.specs.Holdings.{HoldingsValue}
-use Rattle.k_heap.specs.Heaps.{HeapRecord}
+use Rattle.k_commit.specs.k_book.Books.{BookRecord}
+use Rattle.k_commit.specs.k_cell.Changes.{with_black_alone}
+use Rattle.k_commit.specs.k_cell.Holdings.{HoldingsValue}
+use Rattle.k_commit.specs.k_heap.Heaps.{HeapRecord}
 use Rattle.k_collect.specs.Collecting.{CanEndHeap, CanEndKernel}
 
 -- the cell agrees and is marked, and it has seen so few events that the objects of its heap can be counted

@@ -9,7 +9,7 @@ use Rattle.k_types.specs.Owners.{phase_of}
 use Rattle.k_types.specs.Replies.{is_populating}
 use Rattle.k_types.specs.State.{has_share}
 use Rattle.k_types.specs.Totals.{total}
-use Rattle.k_book.specs.Books.{BookRecord}
+use Rattle.k_commit.specs.k_book.Books.{BookRecord}
 use Rattle.k_changes.specs.BookChanges.{registers_in}
 
 -- the reference is into that segment

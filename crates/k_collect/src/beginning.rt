@@ -4,10 +4,10 @@ ghost use Rattle.k_collect.specs.Begun.{HasBegunHeap, HasBegunKernel, HasClosed}
 ghost use Rattle.k_collect.specs.Collecting.{CanBeginHeap, CanBeginKernel, CanClose};
 
 use crate::graying::{gray_kernel_roots, gray_roots};
-use k_book::Book;
-use k_commit::{append_heap, append_heap_and_kernel, append_kernel, meet_heap, meet_kernel};
-use k_heap::HeapCell;
-use k_kernel::KernelCell;
+use k_commit::{
+    Book, HeapCell, KernelCell, append_heap, append_heap_and_kernel, append_kernel, meet_heap,
+    meet_kernel,
+};
 use k_types::{Event, Op, Reply};
 
 /// The operation `collect`: the collection of the process's heap begins, with its roots gray. It answers the event that it

@@ -10,10 +10,7 @@ ghost use Rattle.k_collect.specs.SweptAlone.{CanEndSwept, CanEndSweptKernel, Ker
 use crate::leaving::{leave_kernel_unmarked, leave_unmarked};
 use crate::sweeping::{sweep_heap_telling, sweep_kernel_telling};
 use crate::unsharing::drop_shares;
-use k_book::Book;
-use k_commit::{append_heap, append_kernel, meet_heap, meet_kernel};
-use k_heap::HeapCell;
-use k_kernel::KernelCell;
+use k_commit::{Book, HeapCell, KernelCell, append_heap, append_kernel, meet_heap, meet_kernel};
 use k_mark::{Freed, Listener, Nobody, Swept};
 use k_types::{Event, Heap};
 

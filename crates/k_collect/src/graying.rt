@@ -4,16 +4,14 @@ ghost use Rattle.std.specs.List.{list_any};
 ghost use Rattle.k_types.specs.Bounds.{register_count};
 ghost use Rattle.k_types.specs.Names.{leads_to};
 ghost use Rattle.k_types.specs.declared.names.Heap.TheVariants.{Kernel, User};
-ghost use Rattle.k_book.specs.Books.{book_entries, book_pins};
+ghost use Rattle.k_commit.specs.k_book.Books.{book_entries, book_pins};
 ghost use Rattle.k_changes.specs.BookChanges.{registers_in};
 ghost use Rattle.k_agree.specs.Marking.{begun};
-ghost use Rattle.k_cell.specs.Changes.{HasBegun, HasGrayed};
+ghost use Rattle.k_commit.specs.k_cell.Changes.{HasBegun, HasGrayed};
 ghost use Rattle.k_collect.specs.Graying.{is_counted_at, is_root_by};
 
 use crate::walking::{walk_entered, walk_kernel_entered, walk_kernel_pinned, walk_pinned};
-use k_book::Book;
-use k_heap::HeapCell;
-use k_kernel::KernelCell;
+use k_commit::{Book, HeapCell, KernelCell};
 use k_types::{Heap, REGISTERS, Reg};
 
 /// Makes gray what the registers of the process hold of its heap.

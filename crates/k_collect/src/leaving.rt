@@ -3,12 +3,10 @@ ghost use Rattle.std.specs.Prelude.{◌≡◌};
 ghost use Rattle.k_types.specs.declared.names.CellPhase.TheVariants.{Marked};
 ghost use Rattle.k_base.specs.Distinct.{AreDistinctNames};
 ghost use Rattle.k_agree.specs.Ending.{HasLeft, dropped, dropped_exits};
-ghost use Rattle.k_book.specs.Calls.{ChangesEntries};
+ghost use Rattle.k_commit.specs.k_book.Calls.{ChangesEntries};
 ghost use Rattle.k_collect.specs.Leaving.{HasItsEntries, HasLeftUnmarked};
 
-use k_book::Book;
-use k_heap::HeapCell;
-use k_kernel::KernelCell;
+use k_commit::{Book, HeapCell, KernelCell};
 
 /// Drops the exit items of the process's heap that are not black, each with its entry, and counts them. It passes each exit item
 /// of the heap once.

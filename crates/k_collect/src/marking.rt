@@ -5,8 +5,7 @@ ghost use Rattle.k_types.specs.declared.names.CellPhase.TheVariants.{Marked};
 ghost use Rattle.k_types.specs.declared.names.Heap.TheVariants.{Kernel, User};
 ghost use Rattle.k_collect.specs.Marking.{CanMark, HasMarkedOn};
 
-use k_heap::HeapCell;
-use k_kernel::KernelCell;
+use k_commit::{HeapCell, KernelCell};
 
 /// Marks what the roots of the process's heap reach, under the lock of the heap alone. The cost is in proportion to the marked
 /// objects and their fields.

@@ -4,10 +4,7 @@ ghost use Rattle.k_collect.specs.Settling.{CanSettleHeap, CanSettleKernel, HasSe
 
 use crate::ending::{end_heap, end_kernel};
 use crate::marking::{mark_heap, mark_kernel};
-use k_book::Book;
-use k_commit::{meet_kernel, publish};
-use k_heap::HeapCell;
-use k_kernel::KernelCell;
+use k_commit::{Book, HeapCell, KernelCell, meet_kernel, publish};
 use k_types::CellPhase;
 
 /// Publishes what the process did inside its heap, and ends its open collection, which it marks first where it has only begun. Where

@@ -3,12 +3,11 @@ ghost use Rattle.std.specs.Prelude.{◌≡◌, ◌≤◌, ◌+◌, length};
 ghost use Rattle.k_types.specs.Trace.{Trace};
 ghost use Rattle.k_types.specs.declared.names.Heap.TheVariants.{Kernel, User};
 ghost use Rattle.k_agree.specs.Ending.{freed_objects};
-ghost use Rattle.k_cell.specs.Changes.{freed_at};
+ghost use Rattle.k_commit.specs.k_cell.Changes.{freed_at};
 ghost use Rattle.k_mark.specs.Listening.{AreTold};
 ghost use Rattle.k_collect.specs.SweptAlone.{CanSweepAlone, HasSweptAlone, KernelHasSweptAlone};
 
-use k_heap::HeapCell;
-use k_kernel::KernelCell;
+use k_commit::{HeapCell, KernelCell};
 use k_mark::{Listener, Nobody, Swept};
 
 /// Frees the objects of the process's heap that are not marked, under the lock of the heap alone, and answers what went. The cell

@@ -8,8 +8,7 @@ ghost use Rattle.k_types.specs.State.{has_share};
 ghost use Rattle.k_changes.specs.BookChanges.{registers_in};
 ghost use Rattle.k_collect.specs.Unsharing.{CanUnshare, HasUnshared, bytes_lost, lies_in, shares_lost, ways_left};
 
-use k_book::Book;
-use k_heap::HeapCell;
+use k_commit::{Book, HeapCell};
 use k_types::{Phase, Pid, REGISTERS, Reg, Seg, SharedId};
 
 /// The shares that went: how many, and the bytes of their heaps.

@@ -1,13 +1,11 @@
 //! Roots of a collection, made gray while they are walked to one by one.
 ghost use Rattle.std.specs.Prelude.{◌≡◌};
 ghost use Rattle.k_types.specs.declared.names.Heap.TheVariants.{Kernel, User};
-ghost use Rattle.k_book.specs.Books.{book_entries, book_pins};
-ghost use Rattle.k_cell.specs.Changes.{HasBegun, HasGrayed};
+ghost use Rattle.k_commit.specs.k_book.Books.{book_entries, book_pins};
+ghost use Rattle.k_commit.specs.k_cell.Changes.{HasBegun, HasGrayed};
 ghost use Rattle.k_collect.specs.Graying.{is_counted_at};
 
-use k_book::Book;
-use k_heap::HeapCell;
-use k_kernel::KernelCell;
+use k_commit::{Book, HeapCell, KernelCell};
 use k_types::Heap;
 
 /// Makes gray the objects of the process's heap to which other heaps have exit items. It passes each of them once.

@@ -6,7 +6,7 @@ use Rattle.k_types.specs.declared.op.Op.{Op}
 use Rattle.k_types.specs.Agree.{BookValue, CellValue, book_shown_by}
 use Rattle.k_space.specs.Objects.{BodyValue}
 use Rattle.k_book.specs.Books.{BookRecord}
-use Rattle.k_changes.specs.BookChanges.{owner_in}
+use Rattle.k_book.specs.k_changes.BookChanges.{owner_in}
 use Rattle.k_heap.specs.Heaps.{HeapRecord}
 use Rattle.k_moves.specs.Moves.{KeepsOwners}
 use Rattle.k_commit.specs.Changed.{ChangesValues, HasSetRegister, bodies_after}

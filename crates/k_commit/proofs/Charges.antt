@@ -11,8 +11,8 @@ use Rattle.k_base.proofs.Maxima.{length_in}
 use Rattle.k_limits.specs.Limits.{full_at}
 use Rattle.k_book.specs.Books.{BookRecord, book_limits}
 use Rattle.k_book.proofs.Telling.{tells_limits}
-use Rattle.k_changes.specs.Told.{full_limit_in}
-use Rattle.k_changes.proofs.ToldBy.{limit_told}
+use Rattle.k_book.specs.k_changes.Told.{full_limit_in}
+use Rattle.k_book.proofs.ToldBy.{limit_told}
 use Rattle.k_moves.specs.Answers.{size_fault_in}
 use Rattle.k_commit.specs.Charging.{CanCharge, HasCharged, IsFullFor}
 

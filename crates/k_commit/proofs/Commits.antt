@@ -20,11 +20,11 @@ use Rattle.k_known.specs.Counts.{is_operation}
 use Rattle.k_known.proofs.Counting.{count_low}
 use Rattle.k_known.proofs.Dones.{dones_at_most}
 use Rattle.k_known.proofs.BoundsLaws.{operations_done_are_those_of_the_history}
-use Rattle.k_agree.specs.Agreement.{Agrees, BookAgrees, Shows}
-use Rattle.k_agree.specs.Committing.{CanCommit, IsCommitted, NotedCell, journal_after, note_after, state_to_come}
-use Rattle.k_agree.specs.GivingAway.{with_one_done}
-use Rattle.k_agree.specs.Meeting.{Fits, HasMet}
-use Rattle.k_agree.proofs.Commits.{committed}
+use Rattle.k_book.specs.k_agree.Agreement.{Agrees, BookAgrees, Shows}
+use Rattle.k_book.specs.k_agree.Committing.{CanCommit, IsCommitted, NotedCell, journal_after, note_after, state_to_come}
+use Rattle.k_book.specs.k_agree.GivingAway.{with_one_done}
+use Rattle.k_book.specs.k_agree.Meeting.{Fits, HasMet}
+use Rattle.k_book.proofs.Commits.{committed}
 use Rattle.k_book.specs.Books.{BookRecord}
 use Rattle.k_heap.specs.Heaps.{HeapRecord}
 use Rattle.k_lawful.proofs.Laws.{possible_events_are_lawful}

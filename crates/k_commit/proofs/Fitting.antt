@@ -19,9 +19,9 @@ use Rattle.k_known.proofs.Distinct.{pins_few}
 use Rattle.k_known.proofs.Dones.{dones_at_most}
 use Rattle.k_known.proofs.BoundsLaws.{exit_items_are_at_most_the_stores-all, objects_are_at_most_the_allocations, pins_are_at_most_the_registers-entries}
 use Rattle.k_known.proofs.Fitting.{objects_bounded}
-use Rattle.k_agree.specs.Agreement.{Shows}
-use Rattle.k_entry.specs.Entries.{AreEntries, objects}
-use Rattle.k_entry.proofs.WholeWalks.{all_distinct, few_items}
+use Rattle.k_book.specs.k_agree.Agreement.{Shows}
+use Rattle.k_book.specs.k_entry.Entries.{AreEntries, objects}
+use Rattle.k_book.proofs.WholeWalks.{all_distinct, few_items}
 use Rattle.k_book.specs.Books.{book_pins}
 use Rattle.k_commit.specs.Met.{Before, BeforeWith, HaveMet, HaveMetWith}
 use Rattle.k_commit.specs.Rooms.{HasEventRoom}

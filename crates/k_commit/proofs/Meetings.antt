@@ -8,8 +8,8 @@ use Rattle.k_types.specs.Agree.{CellValue}
 use Rattle.k_types.specs.Cells.{Cell}
 use Rattle.k_types.specs.Trace.{Trace}
 use Rattle.k_tie.specs.Values.{NoteValue}
-use Rattle.k_agree.specs.Meeting.{Fits}
-use Rattle.k_agree.proofs.Meetings.{meeting}
+use Rattle.k_book.specs.k_agree.Meeting.{Fits}
+use Rattle.k_book.proofs.Meetings.{meeting}
 use Rattle.k_space.specs.Objects.{BodyValue}
 use Rattle.k_book.specs.Books.{BookRecord}
 use Rattle.k_heap.specs.Holdings.{HoldingsValue}

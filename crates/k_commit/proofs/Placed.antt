@@ -18,15 +18,15 @@ use Rattle.k_types.specs.Trace.{Trace, segment_count}
 use Rattle.k_base.proofs.Lists.{numbers_length}
 use Rattle.k_base.proofs.NameTests.{name_eq_refl}
 use Rattle.k_base.proofs.Objects.{refers_found, refers_in-kept}
-use Rattle.k_laws.proofs.SoundSteps.{legal_sound}
-use Rattle.k_laws.proofs.SoundStore.{register_holds}
-use Rattle.k_agree.specs.Agreement.{Shows}
-use Rattle.k_agree.proofs.Openings.{home_at}
+use Rattle.k_book.proofs.SoundSteps.{legal_sound}
+use Rattle.k_book.proofs.SoundStore.{register_holds}
+use Rattle.k_book.specs.k_agree.Agreement.{Shows}
+use Rattle.k_book.proofs.Openings.{home_at}
 use Rattle.k_heap.specs.Looks.{field_among}
-use Rattle.k_changes.specs.BookChanges.{owner_in}
-use Rattle.k_changes.proofs.Laws.{the_book_tells_the_owners}
-use Rattle.k_changes.proofs.ToldBy.{register_told}
-use Rattle.k_entry.specs.Entries.{home_of}
+use Rattle.k_book.specs.k_changes.BookChanges.{owner_in}
+use Rattle.k_book.proofs.Laws.{the_book_tells_the_owners}
+use Rattle.k_book.proofs.ToldBy.{register_told}
+use Rattle.k_book.specs.k_entry.Entries.{home_of}
 use Rattle.k_frame.specs.PartUpdates.{held_in}
 use Rattle.k_commit.specs.Met.{Before, HaveMet}
 

@@ -19,9 +19,9 @@ use Rattle.k_types.specs.Steps.{state_after}
 use Rattle.k_types.specs.Trace.{Trace, limit_of, row_of}
 use Rattle.k_base.proofs.Ancestors.{ancestors_in}
 use Rattle.k_base.proofs.Maxima.{length_in, parent_in}
-use Rattle.k_laws.proofs.SoundSteps.{legal_sound}
-use Rattle.k_changes.specs.Told.{full_for_in}
-use Rattle.k_changes.proofs.ToldBy.{full_for_told}
+use Rattle.k_book.proofs.SoundSteps.{legal_sound}
+use Rattle.k_book.specs.k_changes.Told.{full_for_in}
+use Rattle.k_book.proofs.ToldBy.{full_for_told}
 use Rattle.k_limits.specs.declared.error.ResizeRefusal.{ResizeRefusal}
 use Rattle.k_limits.specs.declared.error.ResizeRefusal.TheVariants.{InUse as UsedUp, Full}
 use Rattle.k_limits.specs.Limits.{use_at}
@@ -31,7 +31,7 @@ use Rattle.k_book.specs.Books.{BookRecord, book_limits}
 use Rattle.k_book.specs.Machine.{IsBookOf, TellsTheLimits}
 use Rattle.k_book.proofs.Telling.{tells_limits}
 use Rattle.k_commit.specs.Resizing.{CanCompare, CanResize, HasResized, refused_by}
-use Rattle.k_laws.proofs.UseShown.{use_is_shown}
+use Rattle.k_book.proofs.UseShown.{use_is_shown}
 
 -- a limit with an ancestor has a parent
 some_parent : (rows : List LimitRow) (depth m q : ℕ) → among q (ancestors_within rows depth m) ≡ true → is_some (row_of rows m).parent ≡ true

@@ -5,16 +5,16 @@ use Rattle.k_types.specs.declared.event.Event.{Event}
 use Rattle.k_types.specs.declared.names.Heap.TheVariants.{User}
 use Rattle.k_types.specs.Steps.{touch_count}
 use Rattle.k_types.specs.Trace.{Trace}
-use Rattle.k_agree.specs.Agreement.{Agrees, BookAgrees}
-use Rattle.k_agree.specs.Committing.{journal_after, note_after}
-use Rattle.k_agree.specs.Meeting.{Fits, ShowsTheJournal, met_note}
-use Rattle.k_agree.specs.Publishing.{PublishesItsOldest}
-use Rattle.k_agree.proofs.Published.{publishes}
+use Rattle.k_book.specs.k_agree.Agreement.{Agrees, BookAgrees}
+use Rattle.k_book.specs.k_agree.Committing.{journal_after, note_after}
+use Rattle.k_book.specs.k_agree.Meeting.{Fits, ShowsTheJournal, met_note}
+use Rattle.k_book.specs.k_agree.Publishing.{PublishesItsOldest}
+use Rattle.k_book.proofs.Published.{publishes}
 use Rattle.k_book.specs.Books.{BookRecord}
 use Rattle.k_heap.specs.Heaps.{HeapRecord}
 use Rattle.k_commit.specs.Met.{HeapHasMet}
 use Rattle.k_commit.specs.Published.{CanPublish, HasPublished}
-use Rattle.k_laws.proofs.Laws.{states_are_sound}
+use Rattle.k_book.proofs.LawsLaws.{states_are_sound}
 
 -- some of the events are published, and the rest is still the cell's
 pub record IsPublishing (trace : Trace) (old c : HeapRecord) (before b : BookRecord) : Type 0 where

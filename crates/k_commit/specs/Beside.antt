@@ -5,9 +5,9 @@ use Rattle.k_types.specs.declared.event.Event.{Event}
 use Rattle.k_types.specs.declared.names.CellPhase.TheVariants.{Idle}
 use Rattle.k_types.specs.declared.op.Op.{Op}
 use Rattle.k_types.specs.Trace.{Trace}
-use Rattle.k_agree.specs.Agreement.{Agrees}
-use Rattle.k_agree.specs.Committing.{NotedCell}
-use Rattle.k_agree.specs.Meeting.{Fits, HasMet}
+use Rattle.k_book.specs.k_agree.Agreement.{Agrees}
+use Rattle.k_book.specs.k_agree.Committing.{NotedCell}
+use Rattle.k_book.specs.k_agree.Meeting.{Fits, HasMet}
 use Rattle.k_book.specs.Books.{BookRecord}
 use Rattle.k_heap.specs.Heaps.{HeapRecord}
 use Rattle.k_heap.specs.Holdings.{HoldingsValue}

@@ -16,3 +16,9 @@ pub use Rattle.k_shared.specs.SharedHeaps
 pub use Rattle.k_heap.specs.Heaps
 pub use Rattle.k_heap.specs.declared.heap.CellRooms
 pub use Rattle.k_book.specs.Books
+pub use Rattle.k_book.specs.k_agree
+pub use Rattle.k_book.specs as k_book
+pub use Rattle.k_heap.specs.k_cell
+pub use Rattle.k_heap.specs as k_heap
+pub use Rattle.k_moves.specs as k_moves
+pub use Rattle.k_shared.specs as k_shared

@@ -6,8 +6,8 @@ use Rattle.k_types.specs.Cells.{Cell}
 use Rattle.k_types.specs.Steps.{state_after}
 use Rattle.k_types.specs.Trace.{Trace}
 use Rattle.k_tie.specs.Values.{NoteValue}
-use Rattle.k_agree.specs.Agreement.{Agrees, BookAgrees, Shows}
-use Rattle.k_agree.specs.Meeting.{Fits, HasMet, ShowsTheJournal, met_note}
+use Rattle.k_book.specs.k_agree.Agreement.{Agrees, BookAgrees, Shows}
+use Rattle.k_book.specs.k_agree.Meeting.{Fits, HasMet, ShowsTheJournal, met_note}
 use Rattle.k_book.specs.Books.{BookRecord}
 use Rattle.k_heap.specs.Holdings.{HoldingsValue}
 use Rattle.k_heap.specs.Heaps.{HeapRecord}

@@ -5,7 +5,7 @@ use Rattle.k_types.specs.declared.names.SharedId.{SharedId}
 use Rattle.k_types.specs.Agree.{CellValue}
 use Rattle.k_types.specs.Cells.{Cell}
 use Rattle.k_tie.specs.Values.{NoteValue}
-use Rattle.k_agree.specs.Committing.{NotedCell}
+use Rattle.k_book.specs.k_agree.Committing.{NotedCell}
 use Rattle.k_heap.specs.Holdings.{HoldingsValue}
 use Rattle.k_moves.specs.Moves.{noted}
 use Rattle.k_shared.specs.SharedHeaps.{SharedRecord}

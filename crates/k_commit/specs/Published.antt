@@ -6,8 +6,8 @@ use Rattle.k_types.specs.Sound.{IsSound}
 use Rattle.k_types.specs.Steps.{state_after}
 use Rattle.k_types.specs.Trace.{Trace}
 use Rattle.k_types.specs.TraceRules.{AreLimits}
-use Rattle.k_agree.specs.Agreement.{Agrees, BookAgrees}
-use Rattle.k_agree.specs.Meeting.{Fits, HasMet}
+use Rattle.k_book.specs.k_agree.Agreement.{Agrees, BookAgrees}
+use Rattle.k_book.specs.k_agree.Meeting.{Fits, HasMet}
 use Rattle.k_book.specs.Books.{BookRecord}
 use Rattle.k_heap.specs.Heaps.{HeapRecord}
 

@@ -12,7 +12,7 @@ use Rattle.k_types.specs.Cells.{Cell, CellPart}
 use Rattle.k_types.specs.Trace.{Trace, process_count}
 use Rattle.k_book.specs.Books.{BookRecord}
 use Rattle.k_book.specs.Machine.{IsBookOf}
-use Rattle.k_changes.specs.BookChanges.{with_max}
+use Rattle.k_book.specs.k_changes.BookChanges.{with_max}
 use Rattle.k_limits.specs.declared.error.ResizeRefusal.{ResizeRefusal}
 use Rattle.k_limits.specs.declared.error.ResizeRefusal.TheVariants.{InUse as UsedUp, Full}
 use Rattle.k_moves.specs.Answers.{reply_in}

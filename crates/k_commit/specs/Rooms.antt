@@ -6,7 +6,7 @@ use Rattle.k_types.specs.declared.op.Op.TheVariants.{New, KNew, SNew, Store, Loa
 use Rattle.k_types.specs.Steps.{in_range}
 use Rattle.k_types.specs.Trace.{Trace}
 use Rattle.k_space.specs.Objects.{BodyValue, new_body}
-use Rattle.k_agree.specs.Meeting.{Fits}
+use Rattle.k_book.specs.k_agree.Meeting.{Fits}
 use Rattle.k_book.specs.Books.{BookRecord}
 use Rattle.k_heap.specs.Holdings.{HasObjectRoom, HoldingsValue}
 use Rattle.k_heap.specs.Heaps.{HeapRecord, holdings_of as heap_holdings, own_segment}

@@ -4,7 +4,7 @@ use Rattle.k_types.specs.declared.names.CellPhase.TheVariants.{Idle}
 use Rattle.k_types.specs.declared.names.Heap.TheVariants.{User}
 use Rattle.k_types.specs.Trace.{Trace, process_count, segment_of}
 use Rattle.k_types.specs.TraceRules.{KeepsRules}
-use Rattle.k_agree.specs.Agreement.{Agrees, BookAgrees}
+use Rattle.k_book.specs.k_agree.Agreement.{Agrees, BookAgrees}
 use Rattle.k_book.specs.Books.{BookRecord, pin_room_of}
 use Rattle.k_book.specs.Machine.{IsBookOf}
 use Rattle.k_heap.specs.Holdings.{HoldingsValue}

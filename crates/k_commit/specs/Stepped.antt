@@ -8,8 +8,8 @@ use Rattle.k_types.specs.declared.names.Heap.TheVariants.{User}
 use Rattle.k_types.specs.declared.op.Op.{Op}
 use Rattle.k_types.specs.Steps.{IsPossible, state_after}
 use Rattle.k_types.specs.Trace.{Trace}
-use Rattle.k_agree.specs.Agreement.{Agrees, BookAgrees}
-use Rattle.k_agree.specs.Meeting.{HasMet}
+use Rattle.k_book.specs.k_agree.Agreement.{Agrees, BookAgrees}
+use Rattle.k_book.specs.k_agree.Meeting.{HasMet}
 use Rattle.k_book.specs.Books.{BookRecord}
 use Rattle.k_frame.specs.PartUpdates.{done_in}
 use Rattle.k_heap.specs.Heaps.{HeapRecord}

@@ -1,6 +1,6 @@
 //! Events that are appended, with the cells that they touch.
 ghost use Rattle.std.specs.Prelude.{◌≡◌, ◌<◌, [], ◌∷◌, length};
-ghost use Rattle.k_agree.specs.Committing.{journal_after, note_after};
+ghost use Rattle.k_book.specs.k_agree.Committing.{journal_after, note_after};
 
 use k_book::Book;
 use k_heap::HeapCell;

@@ -1,7 +1,7 @@
 //! What cells and book that have met tell beyond what a step asks.
 ghost use Rattle.std.specs.Prelude.{◌+◌, ◌-◌, ◌<◌, ◌^◌, ℕ, length, slice_index_or};
 ghost use Rattle.k_book.specs.Books.{BookRecord, book_pins};
-ghost use Rattle.k_entry.specs.Entries.{AreEntries};
+ghost use Rattle.k_book.specs.k_entry.Entries.{AreEntries};
 ghost use Rattle.k_frame.specs.PartUpdates.{done_in};
 ghost use Rattle.k_heap.specs.Heaps.{HeapRecord};
 ghost use Rattle.k_heap.specs.Holdings.{HoldingsValue};

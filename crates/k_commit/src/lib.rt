@@ -25,7 +25,10 @@ pub use appending::{
 };
 pub use charging::charge_process;
 pub use committing::commit_heap;
+pub use k_book::Book;
+pub use k_heap::HeapCell;
 pub use k_kernel::KernelCell;
+pub use k_shared::SharedCell;
 pub use laws::{bytes_fit, cells_that_met_have_met, counts_fit, steps_began_before_the_meeting};
 pub use limits::{is_above, is_below, resize_limit};
 pub use meeting::{meet_heap, meet_kernel, meet_shared};

@@ -28,20 +28,20 @@ use Rattle.k_book.proofs.Telling.{tells}
 use Rattle.k_cell.specs.Holdings.{HoldingsValue}
 use Rattle.k_shared.specs.SharedHeaps.{SharedRecord}
 use Rattle.k_shares.specs.Sharers.{is_orphan_by, lowest_orphan}
-use Rattle.k_collect.specs.Standing.{BookStands}
-use Rattle.k_collect.specs.Begun.{HasAppended, HasClosed}
-use Rattle.k_collect.specs.Collecting.{CanClose, CanEndKernel}
-use Rattle.k_collect.specs.Ended.{HasEndedKernel}
-use Rattle.k_collect.proofs.KernelBegins.{none_orphaned, none_found}
-use Rattle.k_process.specs.Keeping.{BookKeeps, CanGive, KernelKeeps}
-use Rattle.k_process.specs.Standing.{RestStands}
-use Rattle.k_process.specs.Worlds.{WorldValue}
+use Rattle.k_operate.specs.k_collect.Standing.{BookStands}
+use Rattle.k_operate.specs.k_collect.Begun.{HasAppended, HasClosed}
+use Rattle.k_operate.specs.k_collect.Collecting.{CanClose, CanEndKernel}
+use Rattle.k_operate.specs.k_collect.Ended.{HasEndedKernel}
+use Rattle.k_operate.proofs.KernelBegins.{none_orphaned, none_found}
+use Rattle.k_operate.specs.k_process.Keeping.{BookKeeps, CanGive, KernelKeeps}
+use Rattle.k_operate.specs.k_process.Standing.{RestStands}
+use Rattle.k_operate.specs.k_process.Worlds.{WorldValue}
 use Rattle.k_operate.specs.Absorbing.{HasAbsorbedOrphans}
 use Rattle.k_operate.specs.Collecting.{KernelCollects}
 use Rattle.k_operate.proofs.AbsorbKept.{first_is, first_told, sound_at_last}
 use Rattle.k_operate.proofs.Appended.{journal_short, open_once_met, room_for, room_for_end, stands_on}
 use Rattle.k_complete.specs.Closing.{CanCollectLast, HasClosedAll, HasCollectedLast}
-use Rattle.k_process.specs.Over.{BookEnds}
+use Rattle.k_operate.specs.k_process.Over.{BookEnds}
 use Rattle.k_complete.proofs.Closings.{absorptions_end_none, end_is, orphans_stay, still_open}
 
 -- what a book that stands tells of processes and shared heaps

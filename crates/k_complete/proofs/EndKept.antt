@@ -9,20 +9,20 @@ use Rattle.k_book.specs.Books.{BookRecord}
 use Rattle.k_cell.specs.Holdings.{HoldingsValue}
 use Rattle.k_heap.specs.Heaps.{HeapRecord}
 use Rattle.k_shared.specs.SharedHeaps.{SharedRecord}
-use Rattle.k_collect.specs.Met.{HeapHasMet, KernelHasMet, SharedHasMet}
-use Rattle.k_collect.specs.Others.{held_by, shared_by}
-use Rattle.k_collect.specs.Standing.{BookStands}
-use Rattle.k_process.specs.Keeping.{operations_left}
-use Rattle.k_process.specs.declared.process.Process.{Process}
+use Rattle.k_operate.specs.k_collect.Met.{HeapHasMet, KernelHasMet, SharedHasMet}
+use Rattle.k_operate.specs.k_collect.Others.{held_by, shared_by}
+use Rattle.k_operate.specs.k_collect.Standing.{BookStands}
+use Rattle.k_operate.specs.k_process.Keeping.{operations_left}
+use Rattle.k_operate.specs.k_process.declared.process.Process.{Process}
 use Rattle.k_complete.specs.Closing.{HasClosedAll}
 use Rattle.k_complete.specs.Ended.{AllThrough}
-use Rattle.k_process.specs.Heaps.{HeapsValue}
-use Rattle.k_process.specs.Over.{AllEnded, AllMet, BookEnds}
+use Rattle.k_operate.specs.k_process.Heaps.{HeapsValue}
+use Rattle.k_operate.specs.k_process.Over.{AllEnded, AllMet, BookEnds}
 use Rattle.k_complete.specs.Meetings.{AreSameButNotes, CellsAndBook, CellsMet, HeapsAndBook, HeapsMet, ProcessesAndBook, ProcessesMet}
-use Rattle.k_process.specs.Standing.{HasDone, IsThroughWith, ProcessStands}
-use Rattle.k_process.specs.Worlds.{WorldValue}
-use Rattle.k_process.proofs.Written.{get_set_cases}
-use Rattle.k_process.proofs.Kept.{met_heap, met_kernel, met_shared, process_set, shared_set}
+use Rattle.k_operate.specs.k_process.Standing.{HasDone, IsThroughWith, ProcessStands}
+use Rattle.k_operate.specs.k_process.Worlds.{WorldValue}
+use Rattle.k_operate.proofs.Written.{get_set_cases}
+use Rattle.k_operate.proofs.Kept.{met_heap, met_kernel, met_shared, process_set, shared_set}
 
 -- fewer operations are left
 pub fewer_left : (world : WorldValue) (op : Op) (old new : HeapRecord) → HasDone world.trace op old new → length (operations_left world.trace new) < length (operations_left world.trace old)

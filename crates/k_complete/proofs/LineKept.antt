@@ -18,14 +18,14 @@ use Rattle.k_frame.specs.PartUpdates.{done_in}
 use Rattle.k_agree.specs.Agreement.{Shows}
 use Rattle.k_book.specs.Books.{BookRecord}
 use Rattle.k_heap.specs.Heaps.{HeapRecord, has_ended_in}
-use Rattle.k_collect.specs.Met.{CanMeet, HeapHasMet}
-use Rattle.k_process.specs.Keeping.{operations_left}
-use Rattle.k_process.specs.declared.process.Process.{Process}
-use Rattle.k_process.specs.Heaps.{HeapsValue}
-use Rattle.k_process.specs.Standing.{AllStand, ArePublished, ComesNext, IsNextOf, ProcessStands, ProcessesStand, RestStands}
-use Rattle.k_process.specs.Worlds.{WorldValue}
-use Rattle.k_process.proofs.Kept.{heap_can_meet, process_set}
-use Rattle.k_process.proofs.Written.{get_set_cases}
+use Rattle.k_operate.specs.k_collect.Met.{CanMeet, HeapHasMet}
+use Rattle.k_operate.specs.k_process.Keeping.{operations_left}
+use Rattle.k_operate.specs.k_process.declared.process.Process.{Process}
+use Rattle.k_operate.specs.k_process.Heaps.{HeapsValue}
+use Rattle.k_operate.specs.k_process.Standing.{AllStand, ArePublished, ComesNext, IsNextOf, ProcessStands, ProcessesStand, RestStands}
+use Rattle.k_operate.specs.k_process.Worlds.{WorldValue}
+use Rattle.k_operate.proofs.Kept.{heap_can_meet, process_set}
+use Rattle.k_operate.proofs.Written.{get_set_cases}
 use Rattle.k_operate.specs.Adding.{AddsOperation, known_to}
 use Rattle.k_operate.specs.Steps.{HasPublishedAll}
 use Rattle.k_complete.specs.Placed.{CanDoAt, HasDoneAt}

@@ -11,14 +11,14 @@ use Rattle.k_book.specs.Books.{BookRecord}
 use Rattle.k_cell.specs.Holdings.{HoldingsValue}
 use Rattle.k_heap.specs.Heaps.{HeapRecord, has_ended_in}
 use Rattle.k_shared.specs.SharedHeaps.{SharedRecord}
-use Rattle.k_process.specs.Keeping.{operations_left}
-use Rattle.k_process.proofs.CanDo.{next_in_range}
-use Rattle.k_process.specs.declared.process.Process.{Process}
-use Rattle.k_process.specs.Heaps.{HeapsValue}
-use Rattle.k_process.specs.Standing.{AllStand, IsNextOf, IsThroughWith, ProcessStands}
-use Rattle.k_process.specs.Worlds.{WorldValue}
-use Rattle.k_process.proofs.Kept.{process_set}
-use Rattle.k_process.proofs.Written.{get_set_cases}
+use Rattle.k_operate.specs.k_process.Keeping.{operations_left}
+use Rattle.k_operate.proofs.CanDo.{next_in_range}
+use Rattle.k_operate.specs.k_process.declared.process.Process.{Process}
+use Rattle.k_operate.specs.k_process.Heaps.{HeapsValue}
+use Rattle.k_operate.specs.k_process.Standing.{AllStand, IsNextOf, IsThroughWith, ProcessStands}
+use Rattle.k_operate.specs.k_process.Worlds.{WorldValue}
+use Rattle.k_operate.proofs.Kept.{process_set}
+use Rattle.k_operate.proofs.Written.{get_set_cases}
 use Rattle.k_operate.specs.Adding.{AddsOperation, known_to}
 use Rattle.k_operate.specs.Killing.{known_to_both}
 use Rattle.k_operate.specs.Steps.{CanDoNext, HasDoneNext, HasPublishedAll, SparesOthers}

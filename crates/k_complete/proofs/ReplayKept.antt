@@ -19,10 +19,10 @@ use Rattle.k_agree.specs.Agreement.{Shows}
 use Rattle.k_agree.specs.Settled.{all_ended_in, no_orphan_in}
 use Rattle.k_book.specs.Books.{BookRecord}
 use Rattle.k_heap.specs.Heaps.{HeapRecord, has_ended_in}
-use Rattle.k_process.specs.Keeping.{HeapKeeps}
-use Rattle.k_process.specs.Heaps.{HeapsValue}
-use Rattle.k_process.specs.Standing.{AllStand, ArePublished, IsThroughWith}
-use Rattle.k_process.specs.Worlds.{WorldValue}
+use Rattle.k_operate.specs.k_process.Keeping.{HeapKeeps}
+use Rattle.k_operate.specs.k_process.Heaps.{HeapsValue}
+use Rattle.k_operate.specs.k_process.Standing.{AllStand, ArePublished, IsThroughWith}
+use Rattle.k_operate.specs.k_process.Worlds.{WorldValue}
 use Rattle.k_complete.specs.Closing.{HasClosedAll}
 use Rattle.k_complete.specs.Meetings.{CellsMet}
 use Rattle.k_complete.specs.Replaying.{CanDoLine, HasReplayed}

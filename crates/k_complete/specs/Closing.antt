@@ -10,10 +10,10 @@ use Rattle.k_book.specs.Books.{BookRecord}
 use Rattle.k_cell.specs.Holdings.{HoldingsValue}
 use Rattle.k_shared.specs.SharedHeaps.{SharedRecord}
 use Rattle.k_shares.specs.Sharers.{lowest_orphan}
-use Rattle.k_process.specs.Keeping.{BookKeeps, KernelKeeps}
-use Rattle.k_process.specs.Standing.{HeapsStand}
-use Rattle.k_process.specs.Worlds.{WorldValue}
-use Rattle.k_process.specs.Over.{BookEnds}
+use Rattle.k_operate.specs.k_process.Keeping.{BookKeeps, KernelKeeps}
+use Rattle.k_operate.specs.k_process.Standing.{HeapsStand}
+use Rattle.k_operate.specs.k_process.Worlds.{WorldValue}
+use Rattle.k_operate.specs.k_process.Over.{BookEnds}
 
 -- kernel and book stand, every process has ended, and no shared heap is an orphan
 pub record CanCollectLast (world : WorldValue) (k : HoldingsValue) (b : BookRecord) : Type 0 where

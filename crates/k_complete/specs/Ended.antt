@@ -2,10 +2,10 @@
 use Rattle.std.specs.Prelude.{◌≡◌, ◌≢◌, ◌<◌, ℕ, List, [], Some, length, slice_get}
 use Rattle.k_types.specs.Trace.{Trace}
 use Rattle.k_heap.specs.Heaps.{HeapRecord}
-use Rattle.k_process.specs.declared.process.Process.{Process}
-use Rattle.k_process.specs.Heaps.{HeapsValue}
-use Rattle.k_process.specs.Standing.{AllStand, IsThroughWith}
-use Rattle.k_process.specs.Worlds.{WorldValue}
+use Rattle.k_operate.specs.k_process.declared.process.Process.{Process}
+use Rattle.k_operate.specs.k_process.Heaps.{HeapsValue}
+use Rattle.k_operate.specs.k_process.Standing.{AllStand, IsThroughWith}
+use Rattle.k_operate.specs.k_process.Worlds.{WorldValue}
 use Rattle.k_operate.specs.Collecting.{HasSameLeft}
 
 -- all heaps and the book stand, and each process is through

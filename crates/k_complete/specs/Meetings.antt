@@ -2,12 +2,12 @@
 use Rattle.std.specs.Prelude.{◌≡◌, ℕ, List, Some, slice_get}
 use Rattle.k_book.specs.Books.{BookRecord}
 use Rattle.k_shared.specs.SharedHeaps.{SharedRecord}
-use Rattle.k_process.specs.Keeping.{KernelKeeps}
-use Rattle.k_process.specs.declared.process.Process.{Process}
-use Rattle.k_process.specs.Heaps.{HeapsValue}
-use Rattle.k_process.specs.Over.{BookEnds}
-use Rattle.k_process.specs.Standing.{HeapsStand, ProcessesStand}
-use Rattle.k_process.specs.Worlds.{WorldValue}
+use Rattle.k_operate.specs.k_process.Keeping.{KernelKeeps}
+use Rattle.k_operate.specs.k_process.declared.process.Process.{Process}
+use Rattle.k_operate.specs.k_process.Heaps.{HeapsValue}
+use Rattle.k_operate.specs.k_process.Over.{BookEnds}
+use Rattle.k_operate.specs.k_process.Standing.{HeapsStand, ProcessesStand}
+use Rattle.k_operate.specs.k_process.Worlds.{WorldValue}
 
 -- all processes and the book stand
 pub record ProcessesAndBook (world : WorldValue) (ps : List Process) (b : BookRecord) : Type 0 where

@@ -4,10 +4,10 @@ use Rattle.k_types.specs.declared.op.Op.{Op}
 use Rattle.k_types.specs.Complete.{IsPrefixOf}
 use Rattle.k_book.specs.Books.{BookRecord}
 use Rattle.k_cell.specs.Holdings.{HoldingsValue}
-use Rattle.k_process.specs.declared.process.Process.{Process}
-use Rattle.k_process.specs.Heaps.{HeapsValue}
-use Rattle.k_process.specs.Standing.{AllStand, ArePublished, ComesNext, HasDone}
-use Rattle.k_process.specs.Worlds.{WorldValue}
+use Rattle.k_operate.specs.k_process.declared.process.Process.{Process}
+use Rattle.k_operate.specs.k_process.Heaps.{HeapsValue}
+use Rattle.k_operate.specs.k_process.Standing.{AllStand, ArePublished, ComesNext, HasDone}
+use Rattle.k_operate.specs.k_process.Worlds.{WorldValue}
 use Rattle.k_operate.specs.Adding.{AddsOperation, known_to}
 use Rattle.k_operate.specs.Killing.{CanKillNow, HasDoneKill, known_to_both}
 use Rattle.k_complete.specs.Ended.{AreKeptBut}

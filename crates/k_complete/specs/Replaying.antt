@@ -3,10 +3,10 @@ use Rattle.std.specs.Prelude.{◌≡◌, ◌<◌, ℕ, List, [], ◌++◌, lengt
 use Rattle.k_types.specs.declared.names.Pid.{Pid}
 use Rattle.k_types.specs.FileOrder.{events_of, file_order, next_operation}
 use Rattle.k_types.specs.Steps.{state_after}
-use Rattle.k_process.specs.Heaps.{HeapsValue}
-use Rattle.k_process.specs.Standing.{AllStand, ArePublished}
-use Rattle.k_process.specs.Worlds.{WorldValue}
-use Rattle.k_process.specs.Over.{AllMet}
+use Rattle.k_operate.specs.k_process.Heaps.{HeapsValue}
+use Rattle.k_operate.specs.k_process.Standing.{AllStand, ArePublished}
+use Rattle.k_operate.specs.k_process.Worlds.{WorldValue}
+use Rattle.k_operate.specs.k_process.Over.{AllMet}
 
 -- all stand, there is a process of that number, and nothing of any process is unpublished
 pub record CanDoLine (world : WorldValue) (heaps : HeapsValue) (at : ℕ) : Type 0 where

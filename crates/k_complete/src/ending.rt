@@ -1,18 +1,16 @@
 //! What is left of a run, done on the caller's thread.
 ghost use Rattle.k_complete.specs.Ended.{AllThrough, CanComplete, HasCompleted};
-ghost use Rattle.k_process.specs.Heaps.{value_of};
-ghost use Rattle.k_process.specs.Over.{AllMet};
-ghost use Rattle.k_process.specs.Standing.{AllStand};
+ghost use Rattle.k_operate.specs.k_process.Heaps.{value_of};
+ghost use Rattle.k_operate.specs.k_process.Over.{AllMet};
+ghost use Rattle.k_operate.specs.k_process.Standing.{AllStand};
 ghost use Rattle.k_complete.specs.Meetings.{CellsAndBook, CellsMet, HeapsAndBook, HeapsMet, ProcessesAndBook, ProcessesMet};
-ghost use Rattle.k_process.specs.Worlds.{WorldValue};
+ghost use Rattle.k_operate.specs.k_process.Worlds.{WorldValue};
 ghost use Rattle.k_types.specs.Complete.{IsPrefixOf};
 
 use crate::closing::close_all;
 use crate::placed::do_at;
 use k_book::Book;
-use k_collect::{meet_heap, meet_kernel, meet_shared};
-use k_operate::publish_all;
-use k_process::{Heaps, Process, next};
+use k_operate::{Heaps, Process, meet_heap, meet_kernel, meet_shared, next, publish_all};
 use k_shared::SharedCell;
 
 /// Does all operations that are left of the process of that number, and publishes its events.

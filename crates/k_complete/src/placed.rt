@@ -1,14 +1,13 @@
 //! The next operation of one process among all. A `kill` is lent two of them.
 ghost use Rattle.std.specs.Prelude.{◌≡◌, Some, slice_get};
 ghost use Rattle.k_complete.specs.Placed.{CanDoAt, CanKillAt, HasDoneAt, HasKilledAt};
-ghost use Rattle.k_process.specs.declared.process.Process.{Process as ProcessValue};
-ghost use Rattle.k_process.specs.Heaps.{value_of};
-ghost use Rattle.k_process.specs.Worlds.{WorldValue};
+ghost use Rattle.k_operate.specs.k_process.declared.process.Process.{Process as ProcessValue};
+ghost use Rattle.k_operate.specs.k_process.Heaps.{value_of};
+ghost use Rattle.k_operate.specs.k_process.Worlds.{WorldValue};
 
 use k_book::Book;
 use k_kernel::KernelCell;
-use k_operate::{do_kill, do_next};
-use k_process::{Heaps, Process};
+use k_operate::{Heaps, Process, do_kill, do_next};
 use k_types::Op;
 
 /// Does the `kill` of the process of the second number by that of the first. The cost is that of `do_kill`.

@@ -1,14 +1,12 @@
 //! The operations of a trace, one after the other in the order of the file.
 ghost use Rattle.k_complete.specs.Replaying.{CanDoLine, CanReplay, HasDoneLine, HasReplayed};
-ghost use Rattle.k_process.specs.Heaps.{value_of};
-ghost use Rattle.k_process.specs.Worlds.{WorldValue};
+ghost use Rattle.k_operate.specs.k_process.Heaps.{value_of};
+ghost use Rattle.k_operate.specs.k_process.Worlds.{WorldValue};
 
 use crate::closing::close_all;
 use crate::ending::meet_all;
 use crate::placed::do_at;
-use k_collect::meet_heap;
-use k_operate::publish_all;
-use k_process::{Heaps, next};
+use k_operate::{Heaps, meet_heap, next, publish_all};
 use k_types::Pid;
 
 /// Does the next operation of the process of that number, if it has one, and publishes its events.

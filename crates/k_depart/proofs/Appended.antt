@@ -27,15 +27,15 @@ use Rattle.k_agree.proofs.Commits.{committed}
 use Rattle.k_agree.proofs.GivenInJournal.{counted_apart, counted_cell, still_counted}
 use Rattle.k_agree.proofs.GivenOnTheBook.{counted_shows}
 use Rattle.k_agree.proofs.Touched.{as_listed}
-use Rattle.k_book.specs.Books.{BookRecord}
-use Rattle.k_cell.specs.Holdings.{HoldingsValue}
+use Rattle.k_commit.specs.k_book.Books.{BookRecord}
+use Rattle.k_commit.specs.k_cell.Holdings.{HoldingsValue}
 use Rattle.k_commit.specs.Met.{FitsTheBook, HeapHasMet, KernelHasMet, SharedHasMet}
 use Rattle.k_commit.specs.Others.{held_by, of_kernel, shared_by}
 use Rattle.k_commit.proofs.Fitting.{done_small}
 use Rattle.k_commit.proofs.Meetings.{other_has_met}
-use Rattle.k_heap.specs.Heaps.{HeapRecord, has_ended_in, own_segment}
-use Rattle.k_moves.specs.Moves.{noted}
-use Rattle.k_shared.specs.SharedHeaps.{SharedRecord}
+use Rattle.k_commit.specs.k_heap.Heaps.{HeapRecord, has_ended_in, own_segment}
+use Rattle.k_commit.specs.k_moves.Moves.{noted}
+use Rattle.k_commit.specs.k_shared.SharedHeaps.{SharedRecord}
 use Rattle.k_depart.specs.Absorbing.{CanAbsorb, HasAbsorbedHeap, HasTakenOver, HaveMetToAbsorb}
 use Rattle.k_depart.specs.Ending.{state_with}
 use Rattle.k_depart.specs.Exiting.{CanExit, HasExited, HasGivenUp, HasRoomToExit, HaveMetToExit, exit_of}

@@ -2,8 +2,8 @@
 use Rattle.std.proofs.Common.{◌≡◌, ℕ, ◌+◌, ◌-◌, ◌<◌, ◌==◌, ◌&&◌, not, nat_lt, Bool, true, false, cond, refl, sym, ap, ap₂, ◌∙◌, get_or, arith}
 use Rattle.std.proofs.lemmas.Bool.Decides.{nat_tests}
 use Rattle.k_types.specs.State.{has_share}
-use Rattle.k_book.specs.Books.{BookRecord}
-use Rattle.k_book.specs.Calls.{ChangesShares}
+use Rattle.k_commit.specs.k_book.Books.{BookRecord}
+use Rattle.k_commit.specs.k_book.Calls.{ChangesShares}
 use Rattle.k_shares.specs.Sharers.{LosesShare}
 use Rattle.k_depart.specs.Charges.{bytes_if_shared, bytes_shared}
 use Rattle.k_base.proofs.Totals.{total_more, first_total}

@@ -24,13 +24,13 @@ use Rattle.k_agree.proofs.GivenAway.{exit_cell, exit_kernel}
 use Rattle.k_agree.proofs.GivenOnTheBook.{end_on_the_book}
 use Rattle.k_agree.proofs.Swept.{among_kept}
 use Rattle.k_bounds.specs.Counts.{one_if}
-use Rattle.k_book.specs.Books.{BookRecord}
-use Rattle.k_book.specs.Calls.{ChangesEntries, ChangesPins}
-use Rattle.k_cell.specs.Holdings.{HoldingsValue}
+use Rattle.k_commit.specs.k_book.Books.{BookRecord}
+use Rattle.k_commit.specs.k_book.Calls.{ChangesEntries, ChangesPins}
+use Rattle.k_commit.specs.k_cell.Holdings.{HoldingsValue}
 use Rattle.k_changes.specs.BookChanges.{registers_in}
 use Rattle.k_changes.specs.CellChanges.{either_of, ended_process, with_objects}
 use Rattle.k_frame.specs.PartUpdates.{done_in}
-use Rattle.k_heap.specs.Heaps.{HeapRecord, has_ended_in, holdings_of, own_segment, with_process_ended}
+use Rattle.k_commit.specs.k_heap.Heaps.{HeapRecord, has_ended_in, holdings_of, own_segment, with_process_ended}
 use Rattle.k_depart.specs.Charges.{HasCredited, bytes_shared, limit_in}
 use Rattle.k_depart.specs.Ending.{MarksEnded}
 use Rattle.k_depart.specs.Exiting.{HasGivenUp, HaveMetToExit, ended_state}

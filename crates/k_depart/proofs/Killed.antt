@@ -35,8 +35,8 @@ use Rattle.k_agree.proofs.Commits.{committed}
 use Rattle.k_agree.proofs.GivenInJournal.{counted_apart, counted_cell, ended_elsewhere, still_counted_by}
 use Rattle.k_agree.proofs.GivenOnTheBook.{counted_shows}
 use Rattle.k_agree.proofs.Touched.{as_listed}
-use Rattle.k_book.specs.Books.{BookRecord}
-use Rattle.k_cell.specs.Holdings.{HoldingsValue}
+use Rattle.k_commit.specs.k_book.Books.{BookRecord}
+use Rattle.k_commit.specs.k_cell.Holdings.{HoldingsValue}
 use Rattle.k_squares.specs.Touches.{ends_other_in, other_cells_in}
 use Rattle.k_commit.specs.Beside.{HasSteppedBeside}
 use Rattle.k_squares.proofs.CellSquares.{ends_told}
@@ -45,9 +45,9 @@ use Rattle.k_commit.specs.Others.{held_by}
 use Rattle.k_commit.proofs.Fitting.{done_small}
 use Rattle.k_commit.proofs.Meetings.{heap_has_met}
 use Rattle.k_commit.proofs.Setting.{process_known, process_lives}
-use Rattle.k_heap.specs.Heaps.{HeapRecord, has_ended_in, own_segment}
-use Rattle.k_moves.specs.Moves.{noted}
-use Rattle.k_moves.proofs.Idle.{unscanned}
+use Rattle.k_commit.specs.k_heap.Heaps.{HeapRecord, has_ended_in, own_segment}
+use Rattle.k_commit.specs.k_moves.Moves.{noted}
+use Rattle.k_commit.proofs.Idle.{unscanned}
 use Rattle.k_depart.specs.Ending.{state_with}
 use Rattle.k_depart.specs.Exiting.{HasGivenUp, HasRoomToExit, HaveMetToExit}
 use Rattle.k_depart.specs.Killing.{CanKill, HasKilled, kill_of}
@@ -105,7 +105,7 @@ module _ (trace : Trace) (c0 c t0 t : HeapRecord) (k0 k : HoldingsValue) (b0 b1 
   unfolding other_cells_in
   ends_by_book =
       ends_if (ends_other_in trace (book_shown_by b0.value) c0.pid.0 t0.pid.0) t0.pid
-      (subst (λ (o : Op). other_cells_in trace (book_shown_by b0.value) (Rattle.k_moves.specs.Shown.idle_part c0.value) c0.pid.0 o ≡ User t0.pid ∷ Kernel ∷ []) can.asks can.reaches)
+      (subst (λ (o : Op). other_cells_in trace (book_shown_by b0.value) (Rattle.k_commit.specs.k_moves.Shown.idle_part c0.value) c0.pid.0 o ≡ User t0.pid ∷ Kernel ∷ []) can.asks can.reaches)
 
   pub ends : IsTrue (ends_other trace st c0.pid.0 t0.pid.0)
   ends =

@@ -29,14 +29,14 @@ use Rattle.k_agree.proofs.HeldOnTheBook.{charge_there, left_there, pins_there}
 use Rattle.k_agree.proofs.Openings.{home_at}
 use Rattle.k_agree.proofs.Swept.{among_kept}
 use Rattle.k_bounds.specs.Counts.{one_if}
-use Rattle.k_book.specs.Books.{BookRecord}
+use Rattle.k_commit.specs.k_book.Books.{BookRecord}
 use Rattle.k_known.proofs.Maxima.{max_small}
-use Rattle.k_cell.specs.Holdings.{HoldingsValue}
+use Rattle.k_commit.specs.k_cell.Holdings.{HoldingsValue}
 use Rattle.k_changes.specs.BookChanges.{registers_in}
 use Rattle.k_commit.specs.Met.{Before}
 use Rattle.k_commit.proofs.Setting.{process_known, process_lives}
-use Rattle.k_heap.specs.Heaps.{HeapRecord, holdings_of, own_segment}
-use Rattle.k_moves.proofs.Idle.{unscanned}
+use Rattle.k_commit.specs.k_heap.Heaps.{HeapRecord, holdings_of, own_segment}
+use Rattle.k_commit.proofs.Idle.{unscanned}
 use Rattle.k_depart.specs.Charges.{bytes_shared, limit_in}
 use Rattle.k_depart.specs.Exiting.{HaveMetToExit, exit_of}
 use Rattle.k_depart.specs.Exits.{AreEntered, into_segment, is_passed}

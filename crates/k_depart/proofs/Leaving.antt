@@ -11,11 +11,11 @@ use Rattle.k_types.specs.Names.{name_among, name_eq}
 use Rattle.k_base.proofs.Lists.{any_weaker}
 use Rattle.k_base.proofs.NameTests.{name_eq-true}
 use Rattle.k_bounds.specs.Counts.{one_if}
-use Rattle.k_cell.specs.Changes.{HasDroppedExit}
+use Rattle.k_commit.specs.k_cell.Changes.{HasDroppedExit}
 use Rattle.k_agree.specs.Ending.{HasLeft}
 use Rattle.k_agree.proofs.Swept.{among_kept}
-use Rattle.k_book.specs.Books.{BookRecord}
-use Rattle.k_book.specs.Calls.{ChangesEntries}
+use Rattle.k_commit.specs.k_book.Books.{BookRecord}
+use Rattle.k_commit.specs.k_book.Calls.{ChangesEntries}
 use Rattle.k_depart.specs.Exits.{EntriesFollow, HasCut, into_segment, is_passed}
 
 -- some exit items of the cell are left on the book, and the rest is still there

@@ -19,10 +19,10 @@ use Rattle.k_laws.proofs.SoundSteps.{legal_sound}
 use Rattle.k_agree.specs.Agreement.{BookShows, Shows}
 use Rattle.k_agree.specs.Ending.{HasLeft}
 use Rattle.k_agree.proofs.HeldOnTheBook.{cut_there, left_there}
-use Rattle.k_book.specs.Books.{BookRecord}
-use Rattle.k_cell.specs.Holdings.{HoldingsValue}
-use Rattle.k_moves.proofs.Idle.{not_open}
-use Rattle.k_shared.specs.SharedHeaps.{SharedRecord, holdings_of}
+use Rattle.k_commit.specs.k_book.Books.{BookRecord}
+use Rattle.k_commit.specs.k_cell.Holdings.{HoldingsValue}
+use Rattle.k_commit.proofs.Idle.{not_open}
+use Rattle.k_commit.specs.k_shared.SharedHeaps.{SharedRecord, holdings_of}
 use Rattle.k_depart.specs.Absorbing.{HaveMetToAbsorb}
 use Rattle.k_depart.specs.Exits.{AreEntered, into_segment}
 use Rattle.k_depart.specs.Segments.{CanGive}

@@ -7,8 +7,8 @@ use Rattle.k_types.specs.Names.{leads_to}
 use Rattle.k_types.specs.Totals.{total}
 use Rattle.k_changes.specs.BookChanges.{registers_in}
 use Rattle.k_frame.specs.PartUpdates.{held_in}
-use Rattle.k_book.specs.Books.{BookRecord}
-use Rattle.k_book.specs.Calls.{ChangesPins}
+use Rattle.k_commit.specs.k_book.Books.{BookRecord}
+use Rattle.k_commit.specs.k_book.Calls.{ChangesPins}
 use Rattle.k_depart.specs.Registers.{ArePinned, HasLetGo}
 
 taken_more : (f : Option Name → ℕ) (xs : List (Option Name)) (i : ℕ) → f None ≡ 0 → total f (take (suc i) xs) ≡ total f (take i xs) + f (get_or xs i None)

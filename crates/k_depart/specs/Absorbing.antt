@@ -9,13 +9,13 @@ use Rattle.k_types.specs.Steps.{IsPossible, state_after}
 use Rattle.k_types.specs.Trace.{Trace, segment_count}
 use Rattle.k_agree.specs.Agreement.{Agrees, BookAgrees, BookShows, Shows}
 use Rattle.k_agree.specs.Meeting.{Fits, HasMet}
-use Rattle.k_book.specs.Books.{BookRecord}
-use Rattle.k_cell.specs.Holdings.{HoldingsValue}
+use Rattle.k_commit.specs.k_book.Books.{BookRecord}
+use Rattle.k_commit.specs.k_cell.Holdings.{HoldingsValue}
 use Rattle.k_commit.specs.Met.{ShowsAfter}
 use Rattle.k_commit.specs.Rooms.{HasEventRoom}
 use Rattle.k_commit.specs.Standing.{BookStands, KernelStands, SharedStands}
 use Rattle.k_lawful.specs.Lawful.{IsLawful}
-use Rattle.k_shared.specs.SharedHeaps.{SharedRecord}
+use Rattle.k_commit.specs.k_shared.SharedHeaps.{SharedRecord}
 use Rattle.k_shares.specs.Sharers.{is_orphan_by}
 use Rattle.k_depart.specs.Ending.{state_with}
 

@@ -4,7 +4,7 @@ use Rattle.k_types.specs.Agree.{BookValue}
 use Rattle.k_types.specs.Numbers.{numbers_below}
 use Rattle.k_types.specs.State.{Sharing, has_share}
 use Rattle.k_types.specs.Totals.{total}
-use Rattle.k_book.specs.Books.{BookRecord}
+use Rattle.k_commit.specs.k_book.Books.{BookRecord}
 
 -- what the process is charged for the shared heap: all its bytes where the process shares it
 abbrev pub bytes_if_shared : BookValue → ℕ → ℕ → ℕ

@@ -9,7 +9,7 @@ use Rattle.k_types.specs.Counted.{counted}
 use Rattle.k_types.specs.State.{State}
 use Rattle.k_types.specs.Steps.{state_after}
 use Rattle.k_types.specs.Trace.{Trace}
-use Rattle.k_book.specs.Books.{BookRecord}
+use Rattle.k_commit.specs.k_book.Books.{BookRecord}
 use Rattle.k_shares.specs.Sharers.{GainsEnded}
 
 -- the state once the book's journal has that event too

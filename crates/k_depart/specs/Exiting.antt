@@ -17,14 +17,14 @@ use Rattle.k_types.specs.Updates.{count_done}
 use Rattle.k_laws.specs.Termination.{CreditsTheCharge, LeavesTheRest, StaysOrPasses}
 use Rattle.k_agree.specs.Agreement.{Agrees, BookAgrees, BookShows, Shows}
 use Rattle.k_agree.specs.Meeting.{Fits, HasMet}
-use Rattle.k_book.specs.Books.{BookRecord}
-use Rattle.k_cell.specs.Holdings.{HoldingsValue}
+use Rattle.k_commit.specs.k_book.Books.{BookRecord}
+use Rattle.k_commit.specs.k_cell.Holdings.{HoldingsValue}
 use Rattle.k_commit.specs.Met.{HaveMetWith}
 use Rattle.k_commit.specs.Others.{of_kernel}
 use Rattle.k_commit.specs.Rooms.{HasEventRoom}
 use Rattle.k_commit.specs.Standing.{BookStands, HeapStands, KernelStands}
 use Rattle.k_frame.specs.PartUpdates.{done_in}
-use Rattle.k_heap.specs.Heaps.{HeapRecord, has_ended_in, own_segment}
+use Rattle.k_commit.specs.k_heap.Heaps.{HeapRecord, has_ended_in, own_segment}
 use Rattle.k_lawful.specs.Lawful.{IsLawful}
 
 -- the journal has room for one event more, and the kernel for the exit items of the process's heap beside its own

@@ -10,15 +10,15 @@ use Rattle.k_types.specs.declared.op.Op.TheVariants.{Kill}
 use Rattle.k_types.specs.Agree.{book_shown_by}
 use Rattle.k_types.specs.Trace.{Trace, segment_count}
 use Rattle.k_agree.specs.Meeting.{Fits}
-use Rattle.k_book.specs.Books.{BookRecord}
-use Rattle.k_cell.specs.Holdings.{HoldingsValue}
+use Rattle.k_commit.specs.k_book.Books.{BookRecord}
+use Rattle.k_commit.specs.k_cell.Holdings.{HoldingsValue}
 use Rattle.k_commit.specs.Beside.{Stands}
 use Rattle.k_commit.specs.Standing.{BookStands, HeapStands, KernelStands}
 use Rattle.k_commit.specs.Stepped.{HasStepped}
 use Rattle.k_frame.specs.PartUpdates.{done_in}
-use Rattle.k_heap.specs.Heaps.{HeapRecord}
-use Rattle.k_moves.specs.Moves.{noted}
-use Rattle.k_moves.specs.Shown.{idle_part}
+use Rattle.k_commit.specs.k_heap.Heaps.{HeapRecord}
+use Rattle.k_commit.specs.k_moves.Moves.{noted}
+use Rattle.k_commit.specs.k_moves.Shown.{idle_part}
 use Rattle.k_squares.specs.Touches.{other_cells_in}
 use Rattle.k_depart.specs.Exiting.{EndsProcess, HasRoomToExit}
 

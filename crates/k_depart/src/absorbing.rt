@@ -2,15 +2,13 @@
 ghost use Rattle.std.specs.Prelude.{◌≡◌, ◌<◌, length};
 ghost use Rattle.k_types.specs.Trace.{Trace};
 ghost use Rattle.k_types.specs.declared.names.Phase.TheVariants.{Absorbed};
-ghost use Rattle.k_shared.specs.SharedHeaps.{with_phase};
+ghost use Rattle.k_commit.specs.k_shared.SharedHeaps.{with_phase};
 ghost use Rattle.k_depart.specs.Absorbing.{CanAbsorb, HasAbsorbedHeap, HasTakenOver, HaveMetToAbsorb};
 ghost use Rattle.k_depart.specs.Ending.{MarksAbsorbed};
 
 use crate::exits::{cut_exits, leave_exits};
 use crate::segments::give_shared;
-use k_book::Book;
-use k_commit::{KernelCell, append_shared_and_kernel, meet_kernel, meet_shared};
-use k_shared::SharedCell;
+use k_commit::{Book, KernelCell, SharedCell, append_shared_and_kernel, meet_kernel, meet_shared};
 use k_types::{Event, Heap, Phase};
 
 /// The kernel absorbs the shared heap, an orphan: a heap that was made and that nobody shares. Its objects are the kernel's

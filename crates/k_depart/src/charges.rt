@@ -3,12 +3,11 @@ ghost use Rattle.std.specs.Prelude.{◌≡◌, ◌+◌, ◌-◌, ◌<◌, ◌≤
 ghost use Rattle.k_types.specs.Owners.{object_bytes};
 ghost use Rattle.k_types.specs.State.{has_share};
 ghost use Rattle.k_types.specs.Totals.{total};
-ghost use Rattle.k_book.specs.Calls.{ChangesShares};
+ghost use Rattle.k_commit.specs.k_book.Calls.{ChangesShares};
 ghost use Rattle.k_shares.specs.Sharers.{LosesShare};
 ghost use Rattle.k_depart.specs.Charges.{HasCredited, bytes_if_shared, bytes_shared, LosesShares, limit_in};
 
-use k_book::Book;
-use k_heap::HeapCell;
+use k_commit::{Book, HeapCell};
 use k_types::{Pid, SharedId};
 
 /// Credits all that the process is charged at its limit, and drops its shares. The cost is in proportion to the number of shared

@@ -2,7 +2,7 @@
 ghost use Rattle.std.specs.Prelude.{◌≡◌, ◌+◌, ◌<◌, ◌^◌, IsFalse, length};
 ghost use Rattle.k_types.specs.Names.{among};
 ghost use Rattle.k_types.specs.Trace.{Trace};
-ghost use Rattle.k_heap.specs.Heaps.{own_segment, with_process_ended};
+ghost use Rattle.k_commit.specs.k_heap.Heaps.{own_segment, with_process_ended};
 ghost use Rattle.k_depart.specs.Ending.{MarksEnded};
 ghost use Rattle.k_depart.specs.Exiting.{CanExit, HasExited, HasGivenUp, HaveMetToExit};
 ghost use Rattle.k_depart.specs.Killing.{CanKill, HasKilled};
@@ -11,11 +11,10 @@ use crate::charges::credit_charge;
 use crate::exits::{cut_exits, pass_exits};
 use crate::registers::unpin_registers;
 use crate::segments::give_heap;
-use k_book::Book;
 use k_commit::{
-    KernelCell, append_heap_and_kernel, append_heaps_and_kernel, meet_heap, meet_kernel,
+    Book, HeapCell, KernelCell, append_heap_and_kernel, append_heaps_and_kernel, meet_heap,
+    meet_kernel,
 };
-use k_heap::HeapCell;
 use k_types::{Event, Heap, Op, Reply, Seg};
 
 /// The operation `exit` ends its process. Its registers are null afterwards, its shares gone, all that it was charged is credited,

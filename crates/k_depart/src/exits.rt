@@ -5,13 +5,10 @@ ghost use Rattle.k_types.specs.Names.{name_among, name_eq};
 ghost use Rattle.k_types.specs.declared.names.CellPhase.TheVariants.{Idle};
 ghost use Rattle.k_types.specs.declared.names.Name.{Name as Named};
 ghost use Rattle.k_agree.specs.Ending.{HasLeft};
-ghost use Rattle.k_book.specs.Calls.{ChangesEntries};
+ghost use Rattle.k_commit.specs.k_book.Calls.{ChangesEntries};
 ghost use Rattle.k_depart.specs.Exits.{AreEntered, EntriesFollow, HasCut, HasNoExits, HasPassed, into_segment, is_passed as is_passed_item};
 
-use k_book::Book;
-use k_commit::KernelCell;
-use k_heap::HeapCell;
-use k_shared::SharedCell;
+use k_commit::{Book, HeapCell, KernelCell, SharedCell};
 use k_types::{Heap, Name, Seg};
 
 /// Leaves each exit item of the shared heap, which has none afterwards. The cost is in proportion to their number.

@@ -1,11 +1,11 @@
 //! What the end of a process by another is among the steps.
 ghost use Rattle.std.specs.Prelude.{[], ◌∷◌};
-ghost use Rattle.k_book.specs.Books.{BookRecord};
-ghost use Rattle.k_cell.specs.Holdings.{HoldingsValue};
+ghost use Rattle.k_commit.specs.k_book.Books.{BookRecord};
+ghost use Rattle.k_commit.specs.k_cell.Holdings.{HoldingsValue};
 ghost use Rattle.k_commit.specs.Beside.{HasSteppedBeside};
 ghost use Rattle.k_depart.specs.Killing.{HasKilled};
-ghost use Rattle.k_heap.specs.Heaps.{HeapRecord};
-ghost use Rattle.k_moves.specs.Moves.{noted};
+ghost use Rattle.k_commit.specs.k_heap.Heaps.{HeapRecord};
+ghost use Rattle.k_commit.specs.k_moves.Moves.{noted};
 ghost use Rattle.k_types.specs.Trace.{Trace};
 ghost use Rattle.k_types.specs.declared.event.Event.{Event};
 ghost use Rattle.k_types.specs.declared.names.Heap.TheVariants.{Kernel, User};

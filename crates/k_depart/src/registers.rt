@@ -4,13 +4,12 @@ ghost use Rattle.k_types.specs.Cells.{pins_of};
 ghost use Rattle.k_types.specs.Counted.{counted};
 ghost use Rattle.k_types.specs.Names.{name_of};
 ghost use Rattle.k_types.specs.declared.names.Name.{Name as Named};
-ghost use Rattle.k_book.specs.Calls.{ChangesPins};
+ghost use Rattle.k_commit.specs.k_book.Calls.{ChangesPins};
 ghost use Rattle.k_changes.specs.BookChanges.{registers_in};
-ghost use Rattle.k_heap.specs.Heaps.{own_segment};
+ghost use Rattle.k_commit.specs.k_heap.Heaps.{own_segment};
 ghost use Rattle.k_depart.specs.Registers.{ArePinned, HasLetGo};
 
-use k_book::Book;
-use k_heap::HeapCell;
+use k_commit::{Book, HeapCell};
 use k_types::{Link, REGISTERS, Reg, Seg};
 
 /// Lets the pin of each register of the process go whose object lies outside its segment. The cost is that of sixteen registers.

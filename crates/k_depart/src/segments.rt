@@ -1,12 +1,10 @@
 //! A heap's segment that is given to the kernel whole.
 ghost use Rattle.std.specs.Prelude.{◌≡◌, ◌+◌, ◌<◌, ◌^◌};
-ghost use Rattle.k_heap.specs.Heaps.{holdings_of as heap_holdings, own_segment};
-ghost use Rattle.k_shared.specs.SharedHeaps.{holdings_of as shared_holdings};
+ghost use Rattle.k_commit.specs.k_heap.Heaps.{holdings_of as heap_holdings, own_segment};
+ghost use Rattle.k_commit.specs.k_shared.SharedHeaps.{holdings_of as shared_holdings};
 ghost use Rattle.k_depart.specs.Segments.{CanGive, HasGiven};
 
-use k_commit::KernelCell;
-use k_heap::HeapCell;
-use k_shared::SharedCell;
+use k_commit::{HeapCell, KernelCell, SharedCell};
 use k_types::Seg;
 
 /// Gives the kernel the segment of the process's heap with all its objects. Constant time in their number.

@@ -8,7 +8,7 @@ use Rattle.k_types.specs.Bounds.{register_count}
 use Rattle.k_types.specs.Limits.{max_of}
 use Rattle.k_types.specs.Owners.{object_bytes}
 use Rattle.k_types.specs.Totals.{total}
-use Rattle.k_host.specs.Hosts.{event_of}
+use Rattle.k_keeper.specs.k_host.Hosts.{event_of}
 use Rattle.k_keeper.specs.HostError.{HostError}
 use Rattle.k_keeper.specs.Guest.{Guest}
 use Rattle.k_keeper.specs.OpenError.{OpenError}

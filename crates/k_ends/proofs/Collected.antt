@@ -21,27 +21,27 @@ use Rattle.k_cell.specs.Holdings.{HoldingsValue}
 use Rattle.k_heap.specs.Heaps.{HeapRecord, has_ended_in, own_segment}
 use Rattle.k_shared.specs.SharedHeaps.{SharedRecord}
 use Rattle.k_shares.specs.Sharers.{heap_number, is_orphan_by, lowest_orphan}
-use Rattle.k_commit.specs.Published.{CanPublish, HasPublished}
-use Rattle.k_commit.specs.Standing.{HeapStands}
-use Rattle.k_collect.specs.Begun.{HasAppended, HasBegunHeap, HasBegunKernel as HasBegunKernelStep}
-use Rattle.k_collect.specs.Collecting.{CanBeginHeap, CanBeginKernel as CanBeginKernelStep, CanEndHeap, CanEndKernel}
-use Rattle.k_collect.specs.Ended.{HasEndedHeap, HasEndedKernel}
-use Rattle.k_collect.specs.Marking.{CanMark, HasMarkedOn}
-use Rattle.k_collect.specs.Settling.{CanSettleHeap, CanSettleKernel, HasSettledHeap, HasSettledKernel as HasSettledKernelStep, ends_to_come}
+use Rattle.k_calls.specs.k_commit.Published.{CanPublish, HasPublished}
+use Rattle.k_calls.specs.k_commit.Standing.{HeapStands}
+use Rattle.k_calls.specs.k_collect.Begun.{HasAppended, HasBegunHeap, HasBegunKernel as HasBegunKernelStep}
+use Rattle.k_calls.specs.k_collect.Collecting.{CanBeginHeap, CanBeginKernel as CanBeginKernelStep, CanEndHeap, CanEndKernel}
+use Rattle.k_calls.specs.k_collect.Ended.{HasEndedHeap, HasEndedKernel}
+use Rattle.k_calls.specs.k_collect.Marking.{CanMark, HasMarkedOn}
+use Rattle.k_calls.specs.k_collect.Settling.{CanSettleHeap, CanSettleKernel, HasSettledHeap, HasSettledKernel as HasSettledKernelStep, ends_to_come}
 use Rattle.k_calls.specs.DepartAbsorbing.{CanAbsorb, HasAbsorbedHeap}
 use Rattle.k_calls.specs.Exiting.{CanExit, HasExited}
-use Rattle.k_guests.specs.declared.guest.Guest.{Guest}
+use Rattle.k_calls.specs.k_guests.declared.guest.Guest.{Guest}
 use Rattle.k_calls.specs.declared.errors.HostError.TheVariants.{Orphan}
 use Rattle.k_calls.specs.Refusals.{Lacks}
-use Rattle.k_locked.proofs.Lists.{found_passes}
+use Rattle.k_calls.proofs.Lists.{found_passes}
 use Rattle.k_base.specs.Distinct.{AreDistinctNames}
 use Rattle.k_ends.proofs.Handed.{book_appended, ends_take_none, exits_fit, kept_published, lives_now, own_few}
 use Rattle.k_ends.specs.Collecting.{CanAbsorbNow, CanBeginKernel, CanExitNow, CanGoOn, CanMarkGuest, CanMarkKernel, HasAbsorbedNow, HasBegun, HasBegunKernel, HasEnded, HasExitedNow, HasGoneOn, HasMarkedGuest, HasMarkedKernel, HasSettled, HasSettledKernel, KernelHasEnded}
-use Rattle.k_guests.specs.Serving.{Basis, BookServes, GuestServes, HasReserveAt, HasSegment, KernelServes}
-use Rattle.k_guests.specs.Reserve.{Spares}
+use Rattle.k_calls.specs.k_guests.Serving.{Basis, BookServes, GuestServes, HasReserveAt, HasSegment, KernelServes}
+use Rattle.k_calls.specs.k_guests.Reserve.{Spares}
 use Rattle.k_calls.proofs.Due.{book_published, can_publish, guest_published, longer_published}
 use Rattle.k_calls.proofs.Going.{book_goes_on, guest_goes_on, kernel_goes_on}
-use Rattle.k_calls.proofs.Rooms.{event_left}
+use Rattle.k_calls.proofs.TestedRooms.{event_left}
 
 -- the end of what is open is one event at most
 one_end : (phase : CellPhase) → ends_to_come phase ≤ 1
@@ -165,7 +165,7 @@ module _ (basis : Basis) (g : Guest) (b : BookRecord) (can : CanGoOn basis g b) 
     book_after : (m : BookRecord) (event : Event) → HasAppended basis.trace l m event → Spares basis.trace basis.rooms.exits basis.rooms.kernel_exits (state_after basis.trace l.journal.list) event → BookServes basis m
     book_after m event a spares = book_appended basis l book_now m event a.book_is a.agrees a.journal a.possible spares
 
-    guest_after : (v : HeapRecord) (m : BookRecord) (phase : CellPhase) → Rattle.k_collect.specs.Begun.HeapGoesOn basis.trace w v m phase → GuestServes basis m.journal.table (record g { cell = v })
+    guest_after : (v : HeapRecord) (m : BookRecord) (phase : CellPhase) → Rattle.k_calls.specs.k_collect.Begun.HeapGoesOn basis.trace w v m phase → GuestServes basis m.journal.table (record g { cell = v })
     guest_after v m phase h =
         guest_goes_on basis l.journal.table m.journal.table (record g { cell = w }) v g.bodies guest_now
         (h.cell_is ∙ ap (λ (x : HeapRecord). record w { note = v.note; value = v.value; bodies = x.bodies }) (sym h.cell_is))
@@ -362,7 +362,7 @@ module _ (basis : Basis) (s : SharedRecord) (k : HoldingsValue) (b : BookRecord)
       segment = ap (λ (y : SharedRecord). y.seg.0) d.shared_is ∙ can.shared.segment ∙ ap (λ (y : SharedRecord). segment_of basis.trace (Shared y.id)) (sym d.shared_is);
       idle = d.idle;
       exits = ap (λ (y : SharedRecord). y.exit_room) d.shared_is ∙ can.shared.exits;
-      serials = λ stands. absurd (false≢true (sym stands ∙ ap Rattle.k_locked.specs.Keeping.is_absorbed_in d.phase));
+      serials = λ stands. absurd (false≢true (sym stands ∙ ap Rattle.k_calls.specs.k_locked.Keeping.is_absorbed_in d.phase));
     };
     same = ap (λ (y : SharedRecord). y.id) d.shared_is;
     event_is = d.event_is;

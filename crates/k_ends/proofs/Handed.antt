@@ -22,12 +22,12 @@ use Rattle.k_agree.specs.Meeting.{Fits}
 use Rattle.k_agree.proofs.Meetings.{meeting}
 use Rattle.k_book.specs.Books.{BookRecord}
 use Rattle.k_cell.specs.Holdings.{HoldingsValue}
-use Rattle.k_collect.specs.Settling.{AreEnds, IsTheEnd}
+use Rattle.k_calls.specs.k_collect.Settling.{AreEnds, IsTheEnd}
 use Rattle.k_heap.specs.Heaps.{HeapRecord, has_ended_in}
-use Rattle.k_guests.specs.Reserve.{Spares}
-use Rattle.k_guests.specs.Serving.{Basis, BookServes, HasReserveAt}
-use Rattle.k_guests.proofs.Reserve.{appended_kept, published_kept}
-use Rattle.k_guests.proofs.ReserveShown.{exits_shown, fit_beside, own_shown}
+use Rattle.k_calls.specs.k_guests.Reserve.{Spares}
+use Rattle.k_calls.specs.k_guests.Serving.{Basis, BookServes, HasReserveAt}
+use Rattle.k_calls.proofs.Reserve.{appended_kept, published_kept}
+use Rattle.k_calls.proofs.ReserveShown.{exits_shown, fit_beside, own_shown}
 use Rattle.k_calls.proofs.Going.{book_goes_on}
 
 -- the cell of a process shows whether it has ended

@@ -19,18 +19,18 @@ use Rattle.k_moves.proofs.Killing.{ends_by, never_one}
 use Rattle.k_book.specs.Books.{BookRecord}
 use Rattle.k_cell.specs.Holdings.{HoldingsValue}
 use Rattle.k_heap.specs.Heaps.{HeapRecord, has_ended_in, own_segment}
-use Rattle.k_commit.specs.Changed.{bodies_after}
-use Rattle.k_commit.specs.Published.{CanPublish, HasPublished}
-use Rattle.k_commit.specs.Standing.{HeapStands}
+use Rattle.k_calls.specs.k_commit.Changed.{bodies_after}
+use Rattle.k_calls.specs.k_commit.Published.{CanPublish, HasPublished}
+use Rattle.k_calls.specs.k_commit.Standing.{HeapStands}
 use Rattle.k_calls.specs.DepartKilling.{CanKill, HasKilled, ReachesEnd, kill_of}
 use Rattle.k_calls.specs.Reaching.{CanReach}
-use Rattle.k_guests.specs.declared.guest.Guest.{Guest}
-use Rattle.k_guests.specs.Serving.{Basis, BookServes, HasSegment, GuestServes, GuestServesWith, KernelServes}
+use Rattle.k_calls.specs.k_guests.declared.guest.Guest.{Guest}
+use Rattle.k_calls.specs.k_guests.Serving.{Basis, BookServes, HasSegment, GuestServes, GuestServesWith, KernelServes}
 use Rattle.k_calls.specs.Doing.{HasEventsLeft, IsDueWith, IsReady, bodies_for, touched_by}
 use Rattle.k_calls.proofs.Due.{book_published, can_publish, guest_published, longer_published}
 use Rattle.k_calls.proofs.Going.{guest_goes_on}
-use Rattle.k_guests.specs.Reserve.{Spares}
-use Rattle.k_calls.proofs.Rooms.{event_left}
+use Rattle.k_calls.specs.k_guests.Reserve.{Spares}
+use Rattle.k_calls.proofs.TestedRooms.{event_left}
 use Rattle.k_squares.specs.Locals.{is_local_in}
 use Rattle.k_base.specs.Distinct.{AreDistinctNames}
 use Rattle.k_ends.proofs.Handed.{book_appended, exits_fit, own_few}

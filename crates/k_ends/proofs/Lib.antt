@@ -4,3 +4,7 @@ pub mod Wholly
 pub mod Killed
 pub use Rattle.k_calls.proofs.Staying
 pub use Rattle.k_calls.proofs.AbsorbKept
+pub use Rattle.k_calls.proofs.Objects
+pub use Rattle.k_calls.proofs.LocalKept
+pub use Rattle.k_calls.proofs.Looped
+pub use Rattle.k_calls.proofs.Written

@@ -14,21 +14,21 @@ use Rattle.k_agree.specs.Agreement.{Agrees}
 use Rattle.k_book.specs.Books.{BookRecord}
 use Rattle.k_cell.specs.Holdings.{HoldingsValue}
 use Rattle.k_heap.specs.Heaps.{HeapRecord}
-use Rattle.k_commit.specs.Published.{HasPublished}
-use Rattle.k_collect.specs.Begun.{HasAppended, HasBegunHeap, HasBegunKernel}
-use Rattle.k_collect.specs.Collecting.{CanEndHeap, CanEndKernel}
-use Rattle.k_collect.specs.Ended.{HasEndedHeap, HasEndedKernel}
-use Rattle.k_collect.specs.Freed.{AreFreed, gone_between}
-use Rattle.k_collect.specs.Marking.{CanMark, HasMarkedOn}
-use Rattle.k_guests.specs.declared.guest.Guest.{Guest}
-use Rattle.k_guests.specs.Serving.{Basis, BookServes, GuestServes, KernelServes}
+use Rattle.k_calls.specs.k_commit.Published.{HasPublished}
+use Rattle.k_calls.specs.k_collect.Begun.{HasAppended, HasBegunHeap, HasBegunKernel}
+use Rattle.k_calls.specs.k_collect.Collecting.{CanEndHeap, CanEndKernel}
+use Rattle.k_calls.specs.k_collect.Ended.{HasEndedHeap, HasEndedKernel}
+use Rattle.k_calls.specs.k_collect.Freed.{AreFreed, gone_between}
+use Rattle.k_calls.specs.k_collect.Marking.{CanMark, HasMarkedOn}
+use Rattle.k_calls.specs.k_guests.declared.guest.Guest.{Guest}
+use Rattle.k_calls.specs.k_guests.Serving.{Basis, BookServes, GuestServes, KernelServes}
 use Rattle.k_calls.proofs.Due.{book_published, longer_published}
 use Rattle.k_calls.proofs.Going.{guest_goes_on, kernel_goes_on}
-use Rattle.k_guests.specs.Objects.{gone_by, made_by, objects_after}
-use Rattle.k_guests.specs.Reserve.{Spares}
-use Rattle.k_guests.proofs.Objects.{appended_counts, published_counts, settled_few}
+use Rattle.k_calls.specs.k_guests.Objects.{gone_by, made_by, objects_after}
+use Rattle.k_calls.specs.k_guests.Reserve.{Spares}
+use Rattle.k_calls.proofs.Objects.{appended_counts, published_counts, settled_few}
 use Rattle.k_ends.proofs.Handed.{book_appended}
-use Rattle.k_calls.proofs.Rooms.{event_left}
+use Rattle.k_calls.proofs.TestedRooms.{event_left}
 use Rattle.k_ends.specs.Collecting.{CanBeginKernel, CanGoOn}
 use Rattle.k_ends.specs.Whole.{AreFreedLast, CanCollect, CanCollectKernel, HasCollected, HasCollectedKernel}
 

@@ -10,13 +10,13 @@ use Rattle.k_types.specs.declared.op.Op.TheVariants.{Collect, Exit, KCollect}
 use Rattle.k_types.specs.Steps.{IsPossible, state_after}
 use Rattle.k_book.specs.Books.{BookRecord}
 use Rattle.k_cell.specs.Holdings.{HoldingsValue}
-use Rattle.k_collect.specs.Settling.{AreEnds, IsTheEnd}
+use Rattle.k_calls.specs.k_collect.Settling.{AreEnds, IsTheEnd}
 use Rattle.k_heap.specs.Heaps.{has_ended_in}
 use Rattle.k_shared.specs.SharedHeaps.{SharedRecord}
 use Rattle.k_shares.specs.Sharers.{is_orphan_by, lowest_orphan}
-use Rattle.k_guests.specs.declared.guest.Guest.{Guest}
+use Rattle.k_calls.specs.k_guests.declared.guest.Guest.{Guest}
 use Rattle.k_calls.specs.Doing.{HasEventsLeft, IsAppended}
-use Rattle.k_guests.specs.Serving.{Basis, BookServes, GuestServes, KeepsPair, KernelServes, SharedServes}
+use Rattle.k_calls.specs.k_guests.Serving.{Basis, BookServes, GuestServes, KeepsPair, KernelServes, SharedServes}
 
 -- process and book serve, the process lives, and the journal has room
 pub record CanGoOn (basis : Basis) (g : Guest) (b : BookRecord) : Type 0 where

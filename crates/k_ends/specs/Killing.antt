@@ -10,8 +10,8 @@ use Rattle.k_book.specs.Books.{BookRecord}
 use Rattle.k_cell.specs.Holdings.{HoldingsValue}
 use Rattle.k_calls.specs.DepartKilling.{kill_of}
 use Rattle.k_heap.specs.Heaps.{has_ended_in}
-use Rattle.k_guests.specs.declared.guest.Guest.{Guest}
-use Rattle.k_guests.specs.Serving.{Basis, BookServes, GuestServes, KeepsPair, KernelServes}
+use Rattle.k_calls.specs.k_guests.declared.guest.Guest.{Guest}
+use Rattle.k_calls.specs.k_guests.Serving.{Basis, BookServes, GuestServes, KeepsPair, KernelServes}
 use Rattle.k_calls.specs.declared.errors.HostError.{HostError}
 use Rattle.k_calls.specs.declared.errors.HostError.TheVariants.{Full, Phase}
 use Rattle.k_calls.specs.Doing.{HasDoneAlone, HasEventsLeft, IsReady, touched_by}

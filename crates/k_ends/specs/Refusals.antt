@@ -6,8 +6,8 @@ use Rattle.k_book.specs.Books.{BookRecord}
 use Rattle.k_cell.specs.Holdings.{HoldingsValue}
 use Rattle.k_heap.specs.Heaps.{has_ended_in}
 use Rattle.k_shares.specs.Sharers.{lowest_orphan}
-use Rattle.k_guests.specs.declared.guest.Guest.{Guest}
-use Rattle.k_guests.specs.Serving.{Basis}
+use Rattle.k_calls.specs.k_guests.declared.guest.Guest.{Guest}
+use Rattle.k_calls.specs.k_guests.Serving.{Basis}
 use Rattle.k_calls.specs.declared.errors.HostError.{HostError}
 use Rattle.k_calls.specs.declared.errors.HostError.TheVariants.{Ended, Phase, Full, Orphan}
 use Rattle.k_calls.specs.Doing.{HasEventsLeft}

@@ -12,12 +12,12 @@ use Rattle.k_types.specs.Trace.{Trace}
 use Rattle.k_mark.specs.Listening.{times}
 use Rattle.k_book.specs.Books.{BookRecord}
 use Rattle.k_cell.specs.Holdings.{HoldingsValue}
-use Rattle.k_collect.specs.Freed.{gone_between}
-use Rattle.k_collect.specs.Settling.{IsTheEnd}
+use Rattle.k_calls.specs.k_collect.Freed.{gone_between}
+use Rattle.k_calls.specs.k_collect.Settling.{IsTheEnd}
 use Rattle.k_heap.specs.Heaps.{has_ended_in}
 use Rattle.k_shares.specs.Sharers.{lowest_orphan}
-use Rattle.k_guests.specs.declared.guest.Guest.{Guest}
-use Rattle.k_guests.specs.Serving.{Basis, BookServes, GuestServes, KeepsPair, KernelServes}
+use Rattle.k_calls.specs.k_guests.declared.guest.Guest.{Guest}
+use Rattle.k_calls.specs.k_guests.Serving.{Basis, BookServes, GuestServes, KeepsPair, KernelServes}
 use Rattle.k_calls.specs.declared.errors.HostError.{HostError}
 use Rattle.k_calls.specs.declared.errors.HostError.TheVariants.{Full, Orphan, Phase}
 use Rattle.k_calls.specs.Refusals.{IsNotAwake, Lacks}

@@ -1,17 +1,15 @@
 //! Collections of a host from their beginning to their end, absorptions, and the ends of processes.
 ghost use Rattle.k_types.specs.declared.names.CellPhase.TheVariants.{Marked};
 ghost use Rattle.k_ends.specs.Collecting.{CanAbsorbNow, CanBegin, CanBeginKernel, CanEnd, CanExitNow, CanGoOn, CanMarkGuest, CanMarkKernel, HasAbsorbedNow, HasBegun, HasBegunKernel, HasEnded, HasExitedNow, HasMarkedGuest, HasMarkedKernel, HasSettled, HasSettledKernel, KernelCanGoOn, KernelHasEnded};
-ghost use Rattle.k_guests.specs.Serving.{Basis, BookServes, KernelServes};
+ghost use Rattle.k_calls.specs.k_guests.Serving.{Basis, BookServes, KernelServes};
 ghost use Rattle.std.specs.Prelude.{◌<◌, length};
 
 use crate::known::{know_exits, know_kernel_exits};
 use k_book::Book;
 use k_calls::{
-    absorb, begin_heap, begin_kernel, end_heap, end_kernel, exit, publish, settle_heap,
-    settle_kernel,
+    Guest, Terms, absorb, begin_heap, begin_kernel, end_heap, end_kernel, exit, mark_heap,
+    mark_kernel, publish, settle_heap, settle_kernel,
 };
-use k_collect::{mark_heap, mark_kernel};
-use k_guests::{Guest, Terms};
 use k_kernel::KernelCell;
 use k_shared::SharedCell;
 use k_types::Event;

@@ -1,13 +1,14 @@
 //! The end of a process by another's operation, tested before it is done.
 ghost use Rattle.std.specs.Prelude.{◌≡◌, ◌↔◌, IfErr, IfOk, IsTrue, OnOk};
 ghost use Rattle.k_types.specs.declared.op.Op.TheVariants.{Kill};
-ghost use Rattle.k_guests.specs.Serving.{Basis, BookServes, GuestServes, KernelServes, basis_of};
+ghost use Rattle.k_calls.specs.k_guests.Serving.{Basis, BookServes, GuestServes, KernelServes, basis_of};
 ghost use Rattle.k_ends.specs.Killing.{CanKillNow, CanNotKill, HasKilledNow, HasRoomToKill, HasTriedToKill, IsNotReadyToEnd, IsReadyToEnd};
 
 use crate::known::{know_exits, know_kernel_exits};
 use k_book::Book;
-use k_calls::{HostError, Reach, do_alone, is_idle, kill, publish, reached, ready, room_left};
-use k_guests::{Guest, Terms};
+use k_calls::{
+    Guest, HostError, Reach, Terms, do_alone, is_idle, kill, publish, reached, ready, room_left,
+};
 use k_kernel::KernelCell;
 use k_types::{Event, Op};
 

@@ -15,7 +15,9 @@ mod known;
 mod starting;
 mod whole;
 
-pub use k_calls::{HostError, operate_with, try_inside, try_publish};
+pub use k_calls::{
+    Guest, HostError, Rooms, Terms, are_fit, make_parts, operate_with, try_inside, try_publish,
+};
 pub use killing::try_kill;
 pub use starting::{
     try_absorb, try_begin, try_begin_kernel, try_end, try_end_kernel, try_exit, try_mark,

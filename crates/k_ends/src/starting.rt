@@ -1,7 +1,7 @@
 //! Calls on the collections of a host's heaps, on absorptions and on the ends of processes, each tested before it is done.
 ghost use Rattle.std.specs.Prelude.{◌≡◌, ◌↔◌, IfErr, IfOk, IsTrue, OnErr, OnOk};
 ghost use Rattle.k_shares.specs.Sharers.{lowest_orphan};
-ghost use Rattle.k_guests.specs.Serving.{BookServes, GuestServes, KernelServes, SharedServes, basis_of};
+ghost use Rattle.k_calls.specs.k_guests.Serving.{BookServes, GuestServes, KernelServes, SharedServes, basis_of};
 ghost use Rattle.k_ends.specs.Collecting.{HasAbsorbedNow, HasBegun, HasBegunKernel, HasEnded, HasExitedNow, HasMarkedGuest, HasMarkedKernel, HasSettled, HasSettledKernel, KernelHasEnded};
 ghost use Rattle.k_ends.specs.Refusals.{CanNotAbsorb, CanNotBegin, CanNotBeginKernel, CanNotEnd, CanNotEndKernel, CanNotExit, CanNotMark, CanNotMarkKernel, CanNotSettle, CanNotSettleKernel};
 
@@ -10,8 +10,7 @@ use crate::collecting::{
     do_settle, do_settle_kernel,
 };
 use k_book::Book;
-use k_calls::{HostError, awake, has_events_left, is_begun, is_idle, is_marked};
-use k_guests::{Guest, Terms};
+use k_calls::{Guest, HostError, Terms, awake, has_events_left, is_begun, is_idle, is_marked};
 use k_kernel::KernelCell;
 use k_shared::SharedCell;
 use k_types::{Event, SharedId};

@@ -1,13 +1,14 @@
 //! Whole collections of a host's heaps: each is tested before it begins, and then it ends too.
 ghost use Rattle.std.specs.Prelude.{◌≡◌, ◌≤◌, ◌↔◌, IfErr, IfOk, IsTrue, OnErr, OnOk};
-ghost use Rattle.k_guests.specs.Objects.{objects_after};
-ghost use Rattle.k_guests.specs.Serving.{Basis, BookServes, GuestServes, KernelServes, basis_of};
+ghost use Rattle.k_calls.specs.k_guests.Objects.{objects_after};
+ghost use Rattle.k_calls.specs.k_guests.Serving.{Basis, BookServes, GuestServes, KernelServes, basis_of};
 ghost use Rattle.k_ends.specs.Whole.{AreFreedLast, CanCollect, CanCollectKernel, CanNotCollect, CanNotCollectKernel, HasCollected, HasCollectedKernel, HasRoomToCollect};
 
 use k_book::Book;
-use k_calls::{HostError, awake, begin_heap, begin_kernel, is_idle, publish};
-use k_collect::{end_heap_listing, end_kernel_listing, mark_heap, mark_kernel};
-use k_guests::{Guest, Terms};
+use k_calls::{
+    Guest, HostError, Terms, awake, begin_heap, begin_kernel, end_heap_listing, end_kernel_listing,
+    is_idle, mark_heap, mark_kernel, publish,
+};
 use k_kernel::KernelCell;
 use k_mark::Freed;
 use k_types::Event;

@@ -1,1 +1,2 @@
 pub mod Pinned
+pub use Rattle.k_entry.proofs.WholeWalks

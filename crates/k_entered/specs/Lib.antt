@@ -1,1 +1,2 @@
 pub mod Entered
+pub use Rattle.k_entry.specs as k_entry

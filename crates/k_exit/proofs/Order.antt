@@ -1,6 +1,6 @@
 -- A list in order of its targets.
 use Rattle.std.proofs.Common.{◌≡◌, ℕ, zero, suc, Bool, true, cond, refl, ap, ◌∙◌, List, [], ◌∷◌, map, get_or, slice_get, Some, arith}
-use Rattle.k_types.specs.Names.{name_eq}
+use Rattle.k_base.specs.k_types.Names.{name_eq}
 use Rattle.k_exit.specs.declared.chains.Item.{Item}
 use Rattle.k_exit.specs.Chains.{row_of, blank}
 use Rattle.k_exit.specs.Exits.{ExitRow, AreDistinct}

@@ -1,12 +1,12 @@
 -- The bytes of a heap after a write.
 use Rattle.std.proofs.Common.{◌≡◌, ℕ, ◌+◌, true, false, cond, refl, ap₂, List, [], ◌∷◌, map, filter, arith, length-set}
-use Rattle.k_types.specs.Totals.{total}
-use Rattle.k_types.specs.declared.names.Name.{Name}
-use Rattle.k_types.specs.declared.names.Heap.{Heap}
-use Rattle.k_types.specs.Names.{heap_eq}
-use Rattle.k_types.specs.State.{Object, Content}
-use Rattle.k_types.specs.Owners.{bytes_by, object_bytes}
-use Rattle.k_types.specs.Updates.{object_after_write}
+use Rattle.k_base.specs.k_types.Totals.{total}
+use Rattle.k_base.specs.k_types.declared.names.Name.{Name}
+use Rattle.k_base.specs.k_types.declared.names.Heap.{Heap}
+use Rattle.k_base.specs.k_types.Names.{heap_eq}
+use Rattle.k_base.specs.k_types.State.{Object, Content}
+use Rattle.k_base.specs.k_types.Owners.{bytes_by, object_bytes}
+use Rattle.k_base.specs.k_types.Updates.{object_after_write}
 use Rattle.k_base.proofs.Objects.{written_name}
 
 -- an object keeps its bytes

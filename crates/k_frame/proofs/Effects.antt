@@ -3,16 +3,16 @@ use Rattle.std.proofs.Common.{◌≡◌, ℕ, ◌==◌, true, false, cond, refl,
 use Rattle.std.proofs.lemmas.Bool.{or_left}
 use Rattle.std.proofs.lemmas.List.{length-map}
 use Rattle.std.proofs.lemmas.List.Folds.{list_any-append}
-use Rattle.k_types.specs.declared.names.Name.{Name}
-use Rattle.k_types.specs.declared.op.Op.{Op}
-use Rattle.k_types.specs.declared.op.Op.TheVariants.{Store, Put, Freeze, Exit, Kill}
-use Rattle.k_types.specs.declared.event.Fault.{Fault}
-use Rattle.k_types.specs.Names.{among, heap_eq}
-use Rattle.k_types.specs.Trace.{Trace}
-use Rattle.k_types.specs.State.{State, Object, Refers, Holds, register}
-use Rattle.k_types.specs.Owners.{owner_of}
-use Rattle.k_types.specs.Updates.{set_register, create, write, object_after_write, add_exit, open_scan, set_phase, add_share, keep_shares, clear_registers, end_process, turn_exits, set_max}
-use Rattle.k_types.specs.Effects.{effect, effect_unless, after_store, after_put, after_end_of, after_kill, with_exit_of_store}
+use Rattle.k_base.specs.k_types.declared.names.Name.{Name}
+use Rattle.k_base.specs.k_types.declared.op.Op.{Op}
+use Rattle.k_base.specs.k_types.declared.op.Op.TheVariants.{Store, Put, Freeze, Exit, Kill}
+use Rattle.k_base.specs.k_types.declared.event.Fault.{Fault}
+use Rattle.k_base.specs.k_types.Names.{among, heap_eq}
+use Rattle.k_base.specs.k_types.Trace.{Trace}
+use Rattle.k_base.specs.k_types.State.{State, Object, Refers, Holds, register}
+use Rattle.k_base.specs.k_types.Owners.{owner_of}
+use Rattle.k_base.specs.k_types.Updates.{set_register, create, write, object_after_write, add_exit, open_scan, set_phase, add_share, keep_shares, clear_registers, end_process, turn_exits, set_max}
+use Rattle.k_base.specs.k_types.Effects.{effect, effect_unless, after_store, after_put, after_end_of, after_kill, with_exit_of_store}
 use Rattle.k_frame.proofs.Rest.{store_rest, put_rest, freeze_rest, kill_rest}
 
 module _ (trace : Trace) where

@@ -4,17 +4,17 @@ use Rattle.std.specs.List.{list_any}
 use Rattle.std.proofs.Math.Path.{fun_ext}
 use Rattle.std.proofs.lemmas.Bool.{false≢true, cases_eq}
 use Rattle.std.proofs.lemmas.List.Elements.{filter-append}
-use Rattle.k_types.specs.declared.names.Name.{Name}
-use Rattle.k_types.specs.declared.names.Heap.{Heap}
-use Rattle.k_types.specs.declared.names.Heap.TheVariants.{Kernel, User, Shared}
-use Rattle.k_types.specs.declared.names.TypeId.{TypeId}
-use Rattle.k_types.specs.declared.names.Field.{Field}
-use Rattle.k_types.specs.Names.{name_eq, heap_eq, among}
-use Rattle.k_types.specs.Trace.{Trace}
-use Rattle.k_types.specs.State.{State, Content, ExitItem, has_exit}
-use Rattle.k_types.specs.Owners.{owner_of, user}
-use Rattle.k_types.specs.Updates.{count_done, set_register, create, write, add_exit, with_exit, open_scan, add_share, close, set_max}
-use Rattle.k_types.specs.Cells.{part, process_of, Cell}
+use Rattle.k_base.specs.k_types.declared.names.Name.{Name}
+use Rattle.k_base.specs.k_types.declared.names.Heap.{Heap}
+use Rattle.k_base.specs.k_types.declared.names.Heap.TheVariants.{Kernel, User, Shared}
+use Rattle.k_base.specs.k_types.declared.names.TypeId.{TypeId}
+use Rattle.k_base.specs.k_types.declared.names.Field.{Field}
+use Rattle.k_base.specs.k_types.Names.{name_eq, heap_eq, among}
+use Rattle.k_base.specs.k_types.Trace.{Trace}
+use Rattle.k_base.specs.k_types.State.{State, Content, ExitItem, has_exit}
+use Rattle.k_base.specs.k_types.Owners.{owner_of, user}
+use Rattle.k_base.specs.k_types.Updates.{count_done, set_register, create, write, add_exit, with_exit, open_scan, add_share, close, set_max}
+use Rattle.k_base.specs.k_types.Cells.{part, process_of, Cell}
 use Rattle.k_base.proofs.Objects.{kept-placed_other, kept-written_other}
 
 -- the exit items of a heap, in their order, tell which it has

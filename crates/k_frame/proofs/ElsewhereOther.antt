@@ -4,17 +4,17 @@ use Rattle.std.specs.List.{cons_option}
 use Rattle.std.proofs.lemmas.Bool.{or_left, or_right, or_from, and_left, false≢true, cases_eq, false_from_ne_true, cond-false, not_from_false}
 use Rattle.std.proofs.lemmas.List.Elements.{filter_agree, filter-append}
 use Rattle.std.proofs.lemmas.List.Folds.{list_any-append}
-use Rattle.k_types.specs.declared.names.Heap.{Heap}
-use Rattle.k_types.specs.declared.names.Heap.TheVariants.{Kernel, User, Shared}
-use Rattle.k_types.specs.declared.names.Phase.{Phase}
-use Rattle.k_types.specs.declared.names.Phase.TheVariants.{Unmade, Absorbed}
-use Rattle.k_types.specs.Names.{heap_eq, among}
-use Rattle.k_types.specs.Trace.{Trace, process_count}
-use Rattle.k_types.specs.State.{State, Object, ExitItem, scan_of, has_exit}
-use Rattle.k_types.specs.Owners.{owner_of, objects_of, user, shared, phase_of, is_absorbed, owner_of_segment, owner_of_process, owner_of_shared}
-use Rattle.k_types.specs.Updates.{set_phase, keep_objects, keep_exits, keep_shares, close_scan, clear_registers, end_process, turn_exits}
-use Rattle.k_types.specs.Effects.{after_ended, survives, exit_stays, after_end_of, exit_after, after_absorbed, stays_after_absorb}
-use Rattle.k_types.specs.Cells.{part, made_of, process_of, phase_shown, Cell}
+use Rattle.k_base.specs.k_types.declared.names.Heap.{Heap}
+use Rattle.k_base.specs.k_types.declared.names.Heap.TheVariants.{Kernel, User, Shared}
+use Rattle.k_base.specs.k_types.declared.names.Phase.{Phase}
+use Rattle.k_base.specs.k_types.declared.names.Phase.TheVariants.{Unmade, Absorbed}
+use Rattle.k_base.specs.k_types.Names.{heap_eq, among}
+use Rattle.k_base.specs.k_types.Trace.{Trace, process_count}
+use Rattle.k_base.specs.k_types.State.{State, Object, ExitItem, scan_of, has_exit}
+use Rattle.k_base.specs.k_types.Owners.{owner_of, objects_of, user, shared, phase_of, is_absorbed, owner_of_segment, owner_of_process, owner_of_shared}
+use Rattle.k_base.specs.k_types.Updates.{set_phase, keep_objects, keep_exits, keep_shares, close_scan, clear_registers, end_process, turn_exits}
+use Rattle.k_base.specs.k_types.Effects.{after_ended, survives, exit_stays, after_end_of, exit_after, after_absorbed, stays_after_absorb}
+use Rattle.k_base.specs.k_types.Cells.{part, made_of, process_of, phase_shown, Cell}
 use Rattle.k_base.proofs.NameTests.{heap_eq-true, heap_eq_sym}
 use Rattle.std.proofs.Math.Path.{fun_ext}
 use Rattle.k_frame.proofs.Elsewhere.{exits_of, exits_told}

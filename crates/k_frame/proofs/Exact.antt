@@ -1,13 +1,13 @@
 -- A charge counts exactly once on each limit of its path.
 use Rattle.std.proofs.Common.{◌≡◌, ℕ, zero, suc, ◌+◌, ◌<◌, ◌≤◌, ◌==◌, Bool, true, false, cond, refl, sym, ap, ap₂, ◌∙◌, List, ◌∷◌, filter, length, Option, Some, None, arith, eqb-true, IsTrue}
 use Rattle.std.proofs.lemmas.Bool.{false≢true, false_from_ne_true}
-use Rattle.k_types.specs.Totals.{total}
-use Rattle.k_types.specs.declared.names.LimitId.{LimitId}
-use Rattle.k_types.specs.declared.setup.LimitRow.{LimitRow}
-use Rattle.k_types.specs.Trace.{row_of}
-use Rattle.k_types.specs.Numbers.{numbers_from}
-use Rattle.k_types.specs.Limits.{is_parent}
-use Rattle.k_types.specs.TraceRules.{IsTree}
+use Rattle.k_base.specs.k_types.Totals.{total}
+use Rattle.k_base.specs.k_types.declared.names.LimitId.{LimitId}
+use Rattle.k_base.specs.k_types.declared.setup.LimitRow.{LimitRow}
+use Rattle.k_base.specs.k_types.Trace.{row_of}
+use Rattle.k_base.specs.k_types.Numbers.{numbers_from}
+use Rattle.k_base.specs.k_types.Limits.{is_parent}
+use Rattle.k_base.specs.k_types.TraceRules.{IsTree}
 use Rattle.k_base.proofs.Charges.{counted, on_path, path_counts, path_low, soft}
 use Rattle.k_base.proofs.Sums.{bit}
 

@@ -2,30 +2,30 @@
 use Rattle.std.proofs.Common.{◌≡◌, ℕ, ◌+◌, ◌<◌, ◌||◌, ◌&&◌, not, cond, subst, Bool, true, false, refl, sym, ap, ◌∙◌, List, [], ◌∷◌, ◌++◌, Option, Some, None, eqb-true, IsTrue, IsFalse}
 use Rattle.std.specs.List.{list_any}
 use Rattle.std.proofs.lemmas.Bool.{or_parts, false≢true, not-false}
-use Rattle.k_types.specs.declared.names.Name.{Name}
-use Rattle.k_types.specs.declared.names.Heap.{Heap}
-use Rattle.k_types.specs.declared.names.Heap.TheVariants.{Kernel, User, Shared}
-use Rattle.k_types.specs.declared.op.Op.{Op}
-use Rattle.k_types.specs.declared.op.Op.TheVariants.{New, KNew, SNew, Store, Load, Move, Clear, Dir, Put, Get, Collect, KCollect, Share, Freeze, Attach, Exit, Kill, Resize}
-use Rattle.k_types.specs.declared.event.Fault.{Fault}
-use Rattle.k_types.specs.declared.event.Fault.TheVariants.{Foreign, NotSharer, Segv, NotPopulating, Taken, ProcNotBelow}
-use Rattle.k_types.specs.declared.names.SharedId.{SharedId}
-use Rattle.k_types.specs.declared.names.Phase.{Phase}
-use Rattle.k_types.specs.declared.names.Phase.TheVariants.{Unmade, Populating, Frozen, Absorbed}
-use Rattle.k_types.specs.declared.event.Event.{Event}
-use Rattle.k_types.specs.declared.event.Event.TheVariants.{Done, Ended, Absorbed as AbsorbedEvent, Closing}
-use Rattle.k_types.specs.Steps.{IsPossible}
+use Rattle.k_base.specs.k_types.declared.names.Name.{Name}
+use Rattle.k_base.specs.k_types.declared.names.Heap.{Heap}
+use Rattle.k_base.specs.k_types.declared.names.Heap.TheVariants.{Kernel, User, Shared}
+use Rattle.k_base.specs.k_types.declared.op.Op.{Op}
+use Rattle.k_base.specs.k_types.declared.op.Op.TheVariants.{New, KNew, SNew, Store, Load, Move, Clear, Dir, Put, Get, Collect, KCollect, Share, Freeze, Attach, Exit, Kill, Resize}
+use Rattle.k_base.specs.k_types.declared.event.Fault.{Fault}
+use Rattle.k_base.specs.k_types.declared.event.Fault.TheVariants.{Foreign, NotSharer, Segv, NotPopulating, Taken, ProcNotBelow}
+use Rattle.k_base.specs.k_types.declared.names.SharedId.{SharedId}
+use Rattle.k_base.specs.k_types.declared.names.Phase.{Phase}
+use Rattle.k_base.specs.k_types.declared.names.Phase.TheVariants.{Unmade, Populating, Frozen, Absorbed}
+use Rattle.k_base.specs.k_types.declared.event.Event.{Event}
+use Rattle.k_base.specs.k_types.declared.event.Event.TheVariants.{Done, Ended, Absorbed as AbsorbedEvent, Closing}
+use Rattle.k_base.specs.k_types.Steps.{IsPossible}
 use Rattle.k_frame.proofs.ElsewhereOther.{set_phase_elsewhere, exited_elsewhere, collected_elsewhere, absorbed_elsewhere}
-use Rattle.k_types.specs.Names.{heap_eq, among}
-use Rattle.k_types.specs.Trace.{Trace, process_count, kinds_of}
-use Rattle.k_types.specs.State.{State, Refers, Holds, register, has_share}
-use Rattle.k_types.specs.Owners.{owner_of, user, phase_of, is_absorbed}
-use Rattle.k_types.specs.Limits.{is_above}
-use Rattle.k_types.specs.Reach.{roots_of}
-use Rattle.k_types.specs.Updates.{add_exit}
-use Rattle.k_types.specs.Replies.{fault_where, first_fault, faults, access_faults, is_foreign, sharer_fault, at_base, is_populating, is_unmade, ends_other}
-use Rattle.k_types.specs.Effects.{effect, effect_unless, after_operation, after_store, after_put, with_exit_of_store, after_freeze, after_end_of, after_kill, step, after_closing}
-use Rattle.k_types.specs.Cells.{part, Cell, base_cell, access_cell, other_cells, cells_touched, touches}
+use Rattle.k_base.specs.k_types.Names.{heap_eq, among}
+use Rattle.k_base.specs.k_types.Trace.{Trace, process_count, kinds_of}
+use Rattle.k_base.specs.k_types.State.{State, Refers, Holds, register, has_share}
+use Rattle.k_base.specs.k_types.Owners.{owner_of, user, phase_of, is_absorbed}
+use Rattle.k_base.specs.k_types.Limits.{is_above}
+use Rattle.k_base.specs.k_types.Reach.{roots_of}
+use Rattle.k_base.specs.k_types.Updates.{add_exit}
+use Rattle.k_base.specs.k_types.Replies.{fault_where, first_fault, faults, access_faults, is_foreign, sharer_fault, at_base, is_populating, is_unmade, ends_other}
+use Rattle.k_base.specs.k_types.Effects.{effect, effect_unless, after_operation, after_store, after_put, with_exit_of_store, after_freeze, after_end_of, after_kill, step, after_closing}
+use Rattle.k_base.specs.k_types.Cells.{part, Cell, base_cell, access_cell, other_cells, cells_touched, touches}
 use Rattle.k_frame.proofs.Elsewhere.{create_elsewhere, write_elsewhere, add_exit_elsewhere, set_register_elsewhere, count_done_elsewhere, open_scan_elsewhere, add_share_elsewhere, set_max_elsewhere, close_elsewhere}
 use Rattle.k_frame.proofs.OwnerOf.{owner_user, owner_kernel, owner_shared}
 

@@ -1,13 +1,13 @@
 -- Histories that follow one another.
 use Rattle.std.proofs.Common.{◌≡◌, ℕ, ◌+◌, ◌==◌, cond, true, false, refl, ap, sym, subst, List, [], ◌∷◌, ◌++◌, append-nil, arith}
 use Rattle.std.proofs.lemmas.List.{append_assoc}
-use Rattle.k_types.specs.declared.event.Event.{Event}
-use Rattle.k_types.specs.declared.event.Event.TheVariants.{Done, Ended, Absorbed, Closing}
-use Rattle.k_types.specs.Trace.{Trace}
-use Rattle.k_types.specs.State.{State, opening}
-use Rattle.k_types.specs.Effects.{step}
-use Rattle.k_types.specs.Cells.{Cell}
-use Rattle.k_types.specs.Steps.{IsRun, IsPossible, IsLegalHistory, run, state_after, touch_count_from, done_by}
+use Rattle.k_base.specs.k_types.declared.event.Event.{Event}
+use Rattle.k_base.specs.k_types.declared.event.Event.TheVariants.{Done, Ended, Absorbed, Closing}
+use Rattle.k_base.specs.k_types.Trace.{Trace}
+use Rattle.k_base.specs.k_types.State.{State, opening}
+use Rattle.k_base.specs.k_types.Effects.{step}
+use Rattle.k_base.specs.k_types.Cells.{Cell}
+use Rattle.k_base.specs.k_types.Steps.{IsRun, IsPossible, IsLegalHistory, run, state_after, touch_count_from, done_by}
 
 pub run_append : (trace : Trace) (st : State) (xs ys : List Event) → run trace st (xs ++ ys) ≡ run trace (run trace st xs) ys
 run_append trace st [] ys = refl

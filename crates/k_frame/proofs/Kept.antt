@@ -2,12 +2,12 @@
 use Rattle.std.proofs.Common.{◌≡◌, ℕ, ◌≤◌, ◌==◌, ◌&&◌, not, Bool, true, false, cond, refl, ap, ap₂, ◌∙◌, inl, inr, List, [], ◌∷◌, filter, Option, None, arith, le_refl, eqb-true}
 use Rattle.std.specs.List.{list_any}
 use Rattle.std.proofs.lemmas.Bool.{and_parts, cases_Bool, and_left}
-use Rattle.k_types.specs.Totals.{total}
-use Rattle.k_types.specs.declared.names.Name.{Name}
-use Rattle.k_types.specs.declared.names.Heap.{Heap}
-use Rattle.k_types.specs.Names.{name_eq, heap_eq}
-use Rattle.k_types.specs.State.{ExitItem, Sharing, Scan, has_exit, has_share, scan_of}
-use Rattle.k_types.specs.Sound.{AreDistinctExits, AreDistinctShares, AreDistinctScans}
+use Rattle.k_base.specs.k_types.Totals.{total}
+use Rattle.k_base.specs.k_types.declared.names.Name.{Name}
+use Rattle.k_base.specs.k_types.declared.names.Heap.{Heap}
+use Rattle.k_base.specs.k_types.Names.{name_eq, heap_eq}
+use Rattle.k_base.specs.k_types.State.{ExitItem, Sharing, Scan, has_exit, has_share, scan_of}
+use Rattle.k_base.specs.k_types.Sound.{AreDistinctExits, AreDistinctShares, AreDistinctScans}
 use Rattle.k_base.proofs.NameTests.{name_eq-true, heap_eq-true}
 
 pub exit_is : (e : ExitItem) (h : Heap) (n : Name) → (heap_eq e.heap h && name_eq e.target n) ≡ true → e ≡ record { heap = h; target = n }

@@ -1,21 +1,21 @@
 -- The laws of this crate, one lemma a clause under the law's name, for the crates above to cite.
 use Rattle.std.proofs.Common.{refl}
 use Rattle.std.specs.Prelude.{IsFalse, IsTrue, List, [], ◌+◌, ◌∷◌, ◌++◌, ◌≡◌, ◌↔◌, ℕ, ◌<◌}
-use Rattle.k_types.specs.Cells.{Cell, part, touches, book_part}
-use Rattle.k_types.specs.Effects.{step, after_operation}
-use Rattle.k_types.specs.Local.{AreLocal, is_local}
-use Rattle.k_types.specs.Names.{among, heap_eq}
-use Rattle.k_types.specs.Owners.{user}
-use Rattle.k_types.specs.Replies.{reply_to}
-use Rattle.k_types.specs.Sound.{IsSized}
-use Rattle.k_types.specs.State.{State, opening}
-use Rattle.k_types.specs.Steps.{IsLegalHistory, IsPossible, IsRun, done_by, run, state_after, touch_count, touch_count_from}
-use Rattle.k_types.specs.Trace.{Trace, process_count}
-use Rattle.k_types.specs.declared.event.Event.{Event}
-use Rattle.k_types.specs.declared.event.Event.TheVariants.{Done}
-use Rattle.k_types.specs.declared.event.Reply.{Reply}
-use Rattle.k_types.specs.declared.names.Pid.{Pid}
-use Rattle.k_types.specs.declared.op.Op.{Op}
+use Rattle.k_base.specs.k_types.Cells.{Cell, part, touches, book_part}
+use Rattle.k_base.specs.k_types.Effects.{step, after_operation}
+use Rattle.k_base.specs.k_types.Local.{AreLocal, is_local}
+use Rattle.k_base.specs.k_types.Names.{among, heap_eq}
+use Rattle.k_base.specs.k_types.Owners.{user}
+use Rattle.k_base.specs.k_types.Replies.{reply_to}
+use Rattle.k_base.specs.k_types.Sound.{IsSized}
+use Rattle.k_base.specs.k_types.State.{State, opening}
+use Rattle.k_base.specs.k_types.Steps.{IsLegalHistory, IsPossible, IsRun, done_by, run, state_after, touch_count, touch_count_from}
+use Rattle.k_base.specs.k_types.Trace.{Trace, process_count}
+use Rattle.k_base.specs.k_types.declared.event.Event.{Event}
+use Rattle.k_base.specs.k_types.declared.event.Event.TheVariants.{Done}
+use Rattle.k_base.specs.k_types.declared.event.Reply.{Reply}
+use Rattle.k_base.specs.k_types.declared.names.Pid.{Pid}
+use Rattle.k_base.specs.k_types.declared.op.Op.{Op}
 use Rattle.k_frame.proofs.FrameSteps.{frame}
 use Rattle.k_frame.proofs.Histories.{done_append, legal_append, legal_front, legal_rest, run_append, touches_append}
 use Rattle.k_frame.proofs.LocalSteps.{reply_same}

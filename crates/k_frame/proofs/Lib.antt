@@ -17,3 +17,17 @@ pub mod Bytes
 pub mod Untouched
 pub mod Laws
 pub mod Answers
+pub use Rattle.k_base.proofs.Ancestors
+pub use Rattle.k_base.proofs.Charges
+pub use Rattle.k_base.proofs.Exits
+pub use Rattle.k_base.proofs.Lists
+pub use Rattle.k_base.proofs.Maxima
+pub use Rattle.k_base.proofs.NameTests
+pub use Rattle.k_base.proofs.Numbered
+pub use Rattle.k_base.proofs.Objects
+pub use Rattle.k_base.proofs.Ordered
+pub use Rattle.k_base.proofs.Owners
+pub use Rattle.k_base.proofs.Resized
+pub use Rattle.k_base.proofs.Shares
+pub use Rattle.k_base.proofs.Sums
+pub use Rattle.k_base.proofs.Tests

@@ -2,21 +2,21 @@
 use Rattle.std.proofs.Common.{◌≡◌, ℕ, zero, suc, ◌+◌, ◌<◌, ◌==◌, ◌||◌, ◌&&◌, not, true, false, cond, refl, sym, ap, ◌∙◌, List, [], ◌∷◌, map, length, Option, Some, None, is_some, arith, eqb-true, inl, inr, IsTrue, IsFalse, get_or, set, nat_le, subst}
 use Rattle.std.proofs.Math.Path.{fun_ext}
 use Rattle.std.proofs.lemmas.Bool.{false≢true, or_cases, and_parts, false_from_ne_true}
-use Rattle.k_types.specs.declared.names.Name.{Name}
-use Rattle.k_types.specs.declared.op.Op.{Op}
-use Rattle.k_types.specs.declared.op.Op.TheVariants.{Store, Load, Move, Clear, Put, Get}
-use Rattle.k_types.specs.Totals.{total}
-use Rattle.k_types.specs.Names.{heap_eq, among, leads_to}
-use Rattle.k_types.specs.Trace.{Trace, process_count}
-use Rattle.k_types.specs.State.{State, Content, Refers, Holds, register}
-use Rattle.k_types.specs.Owners.{owner_of, user, shared, bytes_by, charge_by}
-use Rattle.k_types.specs.Numbers.{numbers_below}
-use Rattle.k_types.specs.Limits.{direct_by}
-use Rattle.k_types.specs.Updates.{set_register, write}
-use Rattle.k_types.specs.Replies.{first_fault, faults, at_base, field_at, field_count, is_ref, reference_from, reference, load_faults, store_faults}
-use Rattle.k_types.specs.Effects.{effect, after_store, after_put}
-use Rattle.k_types.specs.Cells.{book_part, pins_of}
-use Rattle.k_types.specs.Local.{is_local, is_own, is_local_load, is_local_store}
+use Rattle.k_base.specs.k_types.declared.names.Name.{Name}
+use Rattle.k_base.specs.k_types.declared.op.Op.{Op}
+use Rattle.k_base.specs.k_types.declared.op.Op.TheVariants.{Store, Load, Move, Clear, Put, Get}
+use Rattle.k_base.specs.k_types.Totals.{total}
+use Rattle.k_base.specs.k_types.Names.{heap_eq, among, leads_to}
+use Rattle.k_base.specs.k_types.Trace.{Trace, process_count}
+use Rattle.k_base.specs.k_types.State.{State, Content, Refers, Holds, register}
+use Rattle.k_base.specs.k_types.Owners.{owner_of, user, shared, bytes_by, charge_by}
+use Rattle.k_base.specs.k_types.Numbers.{numbers_below}
+use Rattle.k_base.specs.k_types.Limits.{direct_by}
+use Rattle.k_base.specs.k_types.Updates.{set_register, write}
+use Rattle.k_base.specs.k_types.Replies.{first_fault, faults, at_base, field_at, field_count, is_ref, reference_from, reference, load_faults, store_faults}
+use Rattle.k_base.specs.k_types.Effects.{effect, after_store, after_put}
+use Rattle.k_base.specs.k_types.Cells.{book_part, pins_of}
+use Rattle.k_base.specs.k_types.Local.{is_local, is_own, is_local_load, is_local_store}
 use Rattle.k_base.proofs.NameTests.{name_eq-true, heap_eq-same}
 use Rattle.k_base.proofs.Lists.{get_or-set_cases}
 use Rattle.k_base.proofs.Sums.{sum_same}

@@ -1,20 +1,20 @@
 -- A local operation changes its own cell alike wherever the cell is the same.
 use Rattle.std.proofs.Common.{◌≡◌, ℕ, zero, suc, ◌+◌, ◌<◌, ◌==◌, ◌||◌, not, refl, sym, ap, ap₂, ◌∙◌, List, [], ◌∷◌, length, Option, Some, None, is_some, eqb-true, inl, inr, IsTrue, IsFalse, get_or, set, slice_index_or, get_or-set_same, nat_le}
 use Rattle.std.proofs.lemmas.Bool.{false≢true, or_cases, and_parts}
-use Rattle.k_types.specs.declared.names.Name.{Name}
-use Rattle.k_types.specs.declared.op.Op.{Op}
-use Rattle.k_types.specs.declared.op.Op.TheVariants.{Store, Load, Move, Clear, Put, Get}
-use Rattle.k_types.specs.declared.event.Fault.TheVariants.{WrongKind, Frozen, Segv}
-use Rattle.k_types.specs.Names.{heap_eq, among}
-use Rattle.k_types.specs.Trace.{Trace, process_count}
-use Rattle.k_types.specs.State.{State, Content, Refers, Holds, register}
-use Rattle.k_types.specs.Owners.{owner_of, user}
-use Rattle.k_types.specs.Updates.{count_done, set_register, write}
-use Rattle.k_types.specs.Replies.{fault_where, first_fault, faults, access_faults, at_base, field_at, field_count, is_ref, reference_from, passes_barrier, is_frozen_heap, store_faults}
-use Rattle.k_types.specs.Effects.{effect, after_store, after_put, with_exit_of_store}
-use Rattle.k_types.specs.Cells.{part}
+use Rattle.k_base.specs.k_types.declared.names.Name.{Name}
+use Rattle.k_base.specs.k_types.declared.op.Op.{Op}
+use Rattle.k_base.specs.k_types.declared.op.Op.TheVariants.{Store, Load, Move, Clear, Put, Get}
+use Rattle.k_base.specs.k_types.declared.event.Fault.TheVariants.{WrongKind, Frozen, Segv}
+use Rattle.k_base.specs.k_types.Names.{heap_eq, among}
+use Rattle.k_base.specs.k_types.Trace.{Trace, process_count}
+use Rattle.k_base.specs.k_types.State.{State, Content, Refers, Holds, register}
+use Rattle.k_base.specs.k_types.Owners.{owner_of, user}
+use Rattle.k_base.specs.k_types.Updates.{count_done, set_register, write}
+use Rattle.k_base.specs.k_types.Replies.{fault_where, first_fault, faults, access_faults, at_base, field_at, field_count, is_ref, reference_from, passes_barrier, is_frozen_heap, store_faults}
+use Rattle.k_base.specs.k_types.Effects.{effect, after_store, after_put, with_exit_of_store}
+use Rattle.k_base.specs.k_types.Cells.{part}
 use Rattle.k_frame.specs.PartUpdates.{with_register, with_done, with_written}
-use Rattle.k_types.specs.Local.{is_local, is_own, is_local_store}
+use Rattle.k_base.specs.k_types.Local.{is_local, is_own, is_local_store}
 use Rattle.k_frame.specs.Alike.{Alike}
 use Rattle.k_base.proofs.NameTests.{heap_eq_refl}
 use Rattle.k_base.proofs.Objects.{kept-written}

@@ -1,19 +1,19 @@
 -- A local operation does the same wherever the process's cell is the same.
 use Rattle.std.proofs.Common.{◌≡◌, ℕ, ◌+◌, ◌==◌, ◌||◌, not, nat_le, Bool, true, false, cond, refl, sym, ap, ap₂, ◌∙◌, List, [], ◌∷◌, ◌++◌, Option, Some, None, eqb-true, eq-eqb, inl, inr, IsTrue, get_or, slice_index_or, IsSome, IsFalse}
 use Rattle.std.proofs.lemmas.Bool.{false≢true, or_cases, and_parts}
-use Rattle.k_types.specs.declared.names.Name.{Name}
-use Rattle.k_types.specs.declared.op.Op.{Op}
-use Rattle.k_types.specs.declared.op.Op.TheVariants.{New, KNew, SNew, Store, Load, Move, Clear, Put, Get, Attach}
-use Rattle.k_types.specs.declared.event.Fault.{Fault}
-use Rattle.k_types.specs.declared.event.Fault.TheVariants.{WrongKind, Frozen, Segv, NoField}
-use Rattle.k_types.specs.declared.event.Reply.TheVariants.{Loaded, Value}
-use Rattle.k_types.specs.Names.{heap_eq, among}
-use Rattle.k_types.specs.Trace.{Trace}
-use Rattle.k_types.specs.State.{State, Holds, register, object_at, fields_of}
-use Rattle.k_types.specs.Owners.{owner_of, objects_of, user}
-use Rattle.k_types.specs.Replies.{fault_where, first_fault, faults, access_faults, at_base, answer, reply_to, refused_or, field_at, field_count, is_ref, reference_from, reference, passes_barrier, is_frozen_heap, load_faults, store_faults, number_faults, number_from, number_in}
-use Rattle.k_types.specs.Cells.{ProcessPart, part}
-use Rattle.k_types.specs.Local.{is_local, is_own, is_local_load, is_local_store}
+use Rattle.k_base.specs.k_types.declared.names.Name.{Name}
+use Rattle.k_base.specs.k_types.declared.op.Op.{Op}
+use Rattle.k_base.specs.k_types.declared.op.Op.TheVariants.{New, KNew, SNew, Store, Load, Move, Clear, Put, Get, Attach}
+use Rattle.k_base.specs.k_types.declared.event.Fault.{Fault}
+use Rattle.k_base.specs.k_types.declared.event.Fault.TheVariants.{WrongKind, Frozen, Segv, NoField}
+use Rattle.k_base.specs.k_types.declared.event.Reply.TheVariants.{Loaded, Value}
+use Rattle.k_base.specs.k_types.Names.{heap_eq, among}
+use Rattle.k_base.specs.k_types.Trace.{Trace}
+use Rattle.k_base.specs.k_types.State.{State, Holds, register, object_at, fields_of}
+use Rattle.k_base.specs.k_types.Owners.{owner_of, objects_of, user}
+use Rattle.k_base.specs.k_types.Replies.{fault_where, first_fault, faults, access_faults, at_base, answer, reply_to, refused_or, field_at, field_count, is_ref, reference_from, reference, passes_barrier, is_frozen_heap, load_faults, store_faults, number_faults, number_from, number_in}
+use Rattle.k_base.specs.k_types.Cells.{ProcessPart, part}
+use Rattle.k_base.specs.k_types.Local.{is_local, is_own, is_local_load, is_local_store}
 use Rattle.k_frame.specs.Alike.{Alike}
 use Rattle.k_base.proofs.NameTests.{heap_eq-same}
 use Rattle.k_base.proofs.Objects.{object_at-kept}

@@ -1,13 +1,13 @@
 -- A store changes objects and exit items alone, a put objects alone, a freeze phases alone, and the end of another process
 -- registers, exit items, shares and who has ended alone.
 use Rattle.std.proofs.Common.{◌≡◌, ℕ, cond, true, false, refl, ap, Option, Some, None}
-use Rattle.k_types.specs.declared.names.Name.{Name}
-use Rattle.k_types.specs.Names.{among, heap_eq}
-use Rattle.k_types.specs.Trace.{Trace}
-use Rattle.k_types.specs.State.{State, Refers}
-use Rattle.k_types.specs.Owners.{owner_of}
-use Rattle.k_types.specs.Updates.{write, add_exit, set_phase, keep_shares, clear_registers, end_process, turn_exits}
-use Rattle.k_types.specs.Effects.{after_store, after_put, with_exit_of_store, after_freeze, after_end_of, after_kill}
+use Rattle.k_base.specs.k_types.declared.names.Name.{Name}
+use Rattle.k_base.specs.k_types.Names.{among, heap_eq}
+use Rattle.k_base.specs.k_types.Trace.{Trace}
+use Rattle.k_base.specs.k_types.State.{State, Refers}
+use Rattle.k_base.specs.k_types.Owners.{owner_of}
+use Rattle.k_base.specs.k_types.Updates.{write, add_exit, set_phase, keep_shares, clear_registers, end_process, turn_exits}
+use Rattle.k_base.specs.k_types.Effects.{after_store, after_put, with_exit_of_store, after_freeze, after_end_of, after_kill}
 
 link_rest : (trace : Trace) (st : State) (x : Name) (v : Option Name) → with_exit_of_store trace x v st ≡ record st { exits = (with_exit_of_store trace x v st).exits }
 unfolding with_exit_of_store add_exit

@@ -1,26 +1,26 @@
 -- The lists of a state keep their lengths, whatever happens.
 use Rattle.std.proofs.Common.{◌≡◌, ℕ, zero, suc, ◌+◌, ◌<◌, cond, true, false, refl, ap, sym, ◌∙◌, inl, inr, List, [], ◌∷◌, length, replicate, Option, Some, None, arith, get_or, set, length-set}
-use Rattle.k_types.specs.declared.names.Name.{Name}
-use Rattle.k_types.specs.declared.names.TypeId.{TypeId}
-use Rattle.k_types.specs.declared.names.Heap.{Heap}
-use Rattle.k_types.specs.declared.names.Phase.{Phase}
-use Rattle.k_types.specs.declared.names.Phase.TheVariants.{Unmade}
-use Rattle.k_types.specs.declared.names.Field.{Field}
-use Rattle.k_types.specs.declared.names.Heap.TheVariants.{Kernel}
-use Rattle.k_types.specs.declared.op.Op.{Op}
-use Rattle.k_types.specs.declared.op.Op.TheVariants.{New, KNew, SNew, Store, Load, Move, Clear, Dir, Put, Get, Share, Freeze, Attach, Exit, Kill, Resize}
-use Rattle.k_types.specs.declared.event.Fault.{Fault}
-use Rattle.k_types.specs.declared.event.Event.{Event}
-use Rattle.k_types.specs.declared.event.Event.TheVariants.{Done, Ended, Absorbed, Closing}
-use Rattle.k_types.specs.Names.{among, heap_eq}
-use Rattle.k_types.specs.Trace.{Trace, process_count}
-use Rattle.k_types.specs.State.{State, opening}
-use Rattle.k_types.specs.Owners.{owner_of}
-use Rattle.k_types.specs.Replies.{first_fault, faults}
-use Rattle.k_types.specs.Updates.{count_done, set_register, create, write, add_exit, open_scan, set_phase, add_share, keep_objects, keep_exits, keep_shares, close_scan, clear_registers, end_process, turn_exits, set_max, close}
-use Rattle.k_types.specs.Effects.{step, effect, effect_unless, after_operation, after_store, after_put, with_exit_of_store, after_freeze, after_end_of, after_kill, after_ended, after_absorbed, after_closing}
-use Rattle.k_types.specs.Steps.{run, state_after}
-use Rattle.k_types.specs.Sound.{IsSized}
+use Rattle.k_base.specs.k_types.declared.names.Name.{Name}
+use Rattle.k_base.specs.k_types.declared.names.TypeId.{TypeId}
+use Rattle.k_base.specs.k_types.declared.names.Heap.{Heap}
+use Rattle.k_base.specs.k_types.declared.names.Phase.{Phase}
+use Rattle.k_base.specs.k_types.declared.names.Phase.TheVariants.{Unmade}
+use Rattle.k_base.specs.k_types.declared.names.Field.{Field}
+use Rattle.k_base.specs.k_types.declared.names.Heap.TheVariants.{Kernel}
+use Rattle.k_base.specs.k_types.declared.op.Op.{Op}
+use Rattle.k_base.specs.k_types.declared.op.Op.TheVariants.{New, KNew, SNew, Store, Load, Move, Clear, Dir, Put, Get, Share, Freeze, Attach, Exit, Kill, Resize}
+use Rattle.k_base.specs.k_types.declared.event.Fault.{Fault}
+use Rattle.k_base.specs.k_types.declared.event.Event.{Event}
+use Rattle.k_base.specs.k_types.declared.event.Event.TheVariants.{Done, Ended, Absorbed, Closing}
+use Rattle.k_base.specs.k_types.Names.{among, heap_eq}
+use Rattle.k_base.specs.k_types.Trace.{Trace, process_count}
+use Rattle.k_base.specs.k_types.State.{State, opening}
+use Rattle.k_base.specs.k_types.Owners.{owner_of}
+use Rattle.k_base.specs.k_types.Replies.{first_fault, faults}
+use Rattle.k_base.specs.k_types.Updates.{count_done, set_register, create, write, add_exit, open_scan, set_phase, add_share, keep_objects, keep_exits, keep_shares, close_scan, clear_registers, end_process, turn_exits, set_max, close}
+use Rattle.k_base.specs.k_types.Effects.{step, effect, effect_unless, after_operation, after_store, after_put, with_exit_of_store, after_freeze, after_end_of, after_kill, after_ended, after_absorbed, after_closing}
+use Rattle.k_base.specs.k_types.Steps.{run, state_after}
+use Rattle.k_base.specs.k_types.Sound.{IsSized}
 use Rattle.k_base.proofs.Lists.{get_or-set_cases}
 use Rattle.k_base.proofs.Maxima.{maxima_count}
 

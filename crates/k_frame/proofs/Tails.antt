@@ -2,27 +2,27 @@
 use Rattle.std.proofs.Common.{◌≡◌, ℕ, ◌+◌, ◌<◌, ◌==◌, ◌||◌, ◌&&◌, not, Bool, true, false, refl, sym, ap, ◌∙◌, List, [], ◌∷◌, ◌++◌, length, Option, Some, None, eqb-true, IsTrue, IsFalse, length-set, subst, get_or, nat_le, is_some, suc, cond, eq-eqb}
 use Rattle.std.specs.List.{list_any, list_all}
 use Rattle.std.proofs.lemmas.Bool.{false≢true, and_parts, and_from, or_left, not_from_false}
-use Rattle.k_types.specs.declared.names.Pid.{Pid}
-use Rattle.k_types.specs.declared.names.Name.{Name}
-use Rattle.k_types.specs.declared.names.Heap.TheVariants.{User}
-use Rattle.k_types.specs.declared.op.Op.{Op}
-use Rattle.k_types.specs.declared.op.Op.TheVariants.{New, Store, Load, Move, Clear, Dir, Put, Get, Collect, KCollect}
-use Rattle.k_types.specs.declared.event.Fault.{Fault}
-use Rattle.k_types.specs.declared.event.Reply.{Reply}
-use Rattle.k_types.specs.declared.event.Event.{Event}
-use Rattle.k_types.specs.declared.event.Event.TheVariants.{Done, Ended, Absorbed, Closing}
-use Rattle.k_types.specs.Names.{heap_eq, among}
-use Rattle.k_types.specs.Trace.{Trace, process_count}
-use Rattle.k_types.specs.State.{opening, Holds, fields_of, State, scan_of, is_scanned, register}
-use Rattle.k_types.specs.Owners.{owner_of, user}
-use Rattle.k_types.specs.Updates.{count_done}
-use Rattle.k_types.specs.Replies.{is_ref, reference, first_fault, faults, reply_to}
-use Rattle.k_types.specs.Effects.{step, effect_unless, after_operation}
+use Rattle.k_base.specs.k_types.declared.names.Pid.{Pid}
+use Rattle.k_base.specs.k_types.declared.names.Name.{Name}
+use Rattle.k_base.specs.k_types.declared.names.Heap.TheVariants.{User}
+use Rattle.k_base.specs.k_types.declared.op.Op.{Op}
+use Rattle.k_base.specs.k_types.declared.op.Op.TheVariants.{New, Store, Load, Move, Clear, Dir, Put, Get, Collect, KCollect}
+use Rattle.k_base.specs.k_types.declared.event.Fault.{Fault}
+use Rattle.k_base.specs.k_types.declared.event.Reply.{Reply}
+use Rattle.k_base.specs.k_types.declared.event.Event.{Event}
+use Rattle.k_base.specs.k_types.declared.event.Event.TheVariants.{Done, Ended, Absorbed, Closing}
+use Rattle.k_base.specs.k_types.Names.{heap_eq, among}
+use Rattle.k_base.specs.k_types.Trace.{Trace, process_count}
+use Rattle.k_base.specs.k_types.State.{opening, Holds, fields_of, State, scan_of, is_scanned, register}
+use Rattle.k_base.specs.k_types.Owners.{owner_of, user}
+use Rattle.k_base.specs.k_types.Updates.{count_done}
+use Rattle.k_base.specs.k_types.Replies.{is_ref, reference, first_fault, faults, reply_to}
+use Rattle.k_base.specs.k_types.Effects.{step, effect_unless, after_operation}
 use Rattle.k_frame.specs.Tails.{TailFollows}
 use Rattle.k_frame.proofs.Sizes.{history_sized}
-use Rattle.k_types.specs.Cells.{part, Cell, cells_touched, touches, other_cells, access_cell, base_cell, book_part}
-use Rattle.k_types.specs.Steps.{IsPossible, IsRun, run, IsLegalHistory, state_after, waits_for_orphans, touch_count_from, done_by}
-use Rattle.k_types.specs.Local.{is_local, AreLocal, is_local_load, is_local_store, is_own}
+use Rattle.k_base.specs.k_types.Cells.{part, Cell, cells_touched, touches, other_cells, access_cell, base_cell, book_part}
+use Rattle.k_base.specs.k_types.Steps.{IsPossible, IsRun, run, IsLegalHistory, state_after, waits_for_orphans, touch_count_from, done_by}
+use Rattle.k_base.specs.k_types.Local.{is_local, AreLocal, is_local_load, is_local_store, is_own}
 use Rattle.k_frame.specs.Alike.{Alike}
 use Rattle.k_frame.proofs.LocalSteps.{lives_too, reply_same, faults_same, same_register, same_object}
 use Rattle.k_frame.proofs.OwnerOf.{owner_user}

@@ -1,17 +1,17 @@
 -- Events that don't touch a cell leave its part and its count of touches as they were, and its process has done nothing.
 use Rattle.std.proofs.Common.{◌≡◌, ℕ, ◌+◌, ◌==◌, cond, true, false, refl, ap, ◌∙◌, inl, inr, List, [], ◌∷◌, ◌++◌, append-nil, arith, IsFalse, IsTrue, sym, Option, Some, option_map}
 use Rattle.std.proofs.lemmas.Bool.{cases_Bool, or_left}
-use Rattle.k_types.specs.declared.names.Pid.{Pid}
-use Rattle.k_types.specs.declared.op.Op.{Op}
-use Rattle.k_types.specs.declared.event.Reply.{Reply}
-use Rattle.k_types.specs.declared.event.Event.{Event}
-use Rattle.k_types.specs.declared.event.Event.TheVariants.{Done, Ended, Absorbed, Closing}
-use Rattle.k_types.specs.Trace.{Trace}
-use Rattle.k_types.specs.State.{State, opening}
-use Rattle.k_types.specs.Owners.{user}
-use Rattle.k_types.specs.Effects.{step}
-use Rattle.k_types.specs.Cells.{Cell, part, touches, cells_touched, ProcessPart}
-use Rattle.k_types.specs.Steps.{IsRun, run, IsLegalHistory, state_after, touch_count_from, touch_count, done_by}
+use Rattle.k_base.specs.k_types.declared.names.Pid.{Pid}
+use Rattle.k_base.specs.k_types.declared.op.Op.{Op}
+use Rattle.k_base.specs.k_types.declared.event.Reply.{Reply}
+use Rattle.k_base.specs.k_types.declared.event.Event.{Event}
+use Rattle.k_base.specs.k_types.declared.event.Event.TheVariants.{Done, Ended, Absorbed, Closing}
+use Rattle.k_base.specs.k_types.Trace.{Trace}
+use Rattle.k_base.specs.k_types.State.{State, opening}
+use Rattle.k_base.specs.k_types.Owners.{user}
+use Rattle.k_base.specs.k_types.Effects.{step}
+use Rattle.k_base.specs.k_types.Cells.{Cell, part, touches, cells_touched, ProcessPart}
+use Rattle.k_base.specs.k_types.Steps.{IsRun, run, IsLegalHistory, state_after, touch_count_from, touch_count, done_by}
 use Rattle.k_frame.proofs.FrameSteps.{frame}
 use Rattle.k_frame.proofs.Histories.{run_append, legal_rest, touches_append, done_append}
 use Rattle.k_frame.specs.PartUpdates.{done_in, process_with_done}

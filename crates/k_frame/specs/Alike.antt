@@ -1,10 +1,10 @@
 -- States that a local operation cannot tell apart.
 use Rattle.std.specs.Prelude.{◌≡◌, ◌<◌, IsFalse, ℕ, length}
-use Rattle.k_types.specs.Names.{among}
-use Rattle.k_types.specs.Owners.{user}
-use Rattle.k_types.specs.Cells.{part}
-use Rattle.k_types.specs.Trace.{Trace, process_count}
-use Rattle.k_types.specs.State.{State}
+use Rattle.k_base.specs.k_types.Names.{among}
+use Rattle.k_base.specs.k_types.Owners.{user}
+use Rattle.k_base.specs.k_types.Cells.{part}
+use Rattle.k_base.specs.k_types.Trace.{Trace, process_count}
+use Rattle.k_base.specs.k_types.State.{State}
 
 -- what a local operation reads is the same in the two states
 pub record Alike (trace : Trace) (p : ℕ) (st su : State) : Type 0 where

@@ -1,12 +1,12 @@
 -- A tail of local events, after a longer list of events than it was done after.
 use Rattle.std.specs.Prelude.{◌≡◌, ℕ, IsFalse, List, ◌++◌}
-use Rattle.k_types.specs.declared.event.Event.{Event}
-use Rattle.k_types.specs.Names.{heap_eq}
-use Rattle.k_types.specs.Trace.{Trace}
-use Rattle.k_types.specs.Owners.{user}
-use Rattle.k_types.specs.Cells.{Cell, part, book_part}
-use Rattle.k_types.specs.Local.{AreLocal}
-use Rattle.k_types.specs.Steps.{IsLegalHistory, state_after}
+use Rattle.k_base.specs.k_types.declared.event.Event.{Event}
+use Rattle.k_base.specs.k_types.Names.{heap_eq}
+use Rattle.k_base.specs.k_types.Trace.{Trace}
+use Rattle.k_base.specs.k_types.Owners.{user}
+use Rattle.k_base.specs.k_types.Cells.{Cell, part, book_part}
+use Rattle.k_base.specs.k_types.Local.{AreLocal}
+use Rattle.k_base.specs.k_types.Steps.{IsLegalHistory, state_after}
 
 -- the process's tail, done after the events known, does the same after the rest too: it is legal and local there, leaves its
 -- cell's part as after the events known, and the book's part and that of every other cell as they were

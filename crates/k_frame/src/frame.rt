@@ -1,13 +1,13 @@
 //! What a step leaves as it was, and how histories add up.
 ghost use Rattle.std.specs.Prelude.{IsFalse, IsTrue, List, [], ◌+◌, ◌∷◌, ◌++◌, ◌≡◌, ◌↔◌, ℕ};
-ghost use Rattle.k_types.specs.Cells.{Cell, part, touches};
-ghost use Rattle.k_types.specs.Effects.{step};
-ghost use Rattle.k_types.specs.Owners.{user};
-ghost use Rattle.k_types.specs.Sound.{IsSized};
-ghost use Rattle.k_types.specs.State.{State};
-ghost use Rattle.k_types.specs.Steps.{IsLegalHistory, IsPossible, IsRun, done_by, run, state_after, touch_count, touch_count_from};
-ghost use Rattle.k_types.specs.Trace.{Trace};
-ghost use Rattle.k_types.specs.declared.event.Event.{Event};
+ghost use Rattle.k_base.specs.k_types.Cells.{Cell, part, touches};
+ghost use Rattle.k_base.specs.k_types.Effects.{step};
+ghost use Rattle.k_base.specs.k_types.Owners.{user};
+ghost use Rattle.k_base.specs.k_types.Sound.{IsSized};
+ghost use Rattle.k_base.specs.k_types.State.{State};
+ghost use Rattle.k_base.specs.k_types.Steps.{IsLegalHistory, IsPossible, IsRun, done_by, run, state_after, touch_count, touch_count_from};
+ghost use Rattle.k_base.specs.k_types.Trace.{Trace};
+ghost use Rattle.k_base.specs.k_types.declared.event.Event.{Event};
 
 /// The frame: a step leaves the part of each cell that it does not touch as it was, and its count of touches, and raises the count of
 /// each cell that it touches by 1. So a cell whose

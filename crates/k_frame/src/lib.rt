@@ -10,4 +10,5 @@ pub use frame::{
     histories_add_up, lists_keep_their_lengths, steps_leave_other_cells,
     untouched_processes_do_nothing,
 };
+pub use k_base::{CellPhase, Event, LimitRow, Link, Name, NoMemory, Op, Pid, Seg, Serial, TypeId};
 pub use locality::{local_operations_go_by_their_cell, tails_follow};

@@ -1,21 +1,21 @@
 //! A local operation depends only on its process's cell, and so does a tail of them.
 ghost use Rattle.std.specs.Prelude.{IsFalse, IsTrue, List, ◌++◌, ◌<◌, ◌≡◌, ℕ};
 ghost use Rattle.k_frame.specs.Tails.{TailFollows};
-ghost use Rattle.k_types.specs.Cells.{book_part, part, touches, Cell};
-ghost use Rattle.k_types.specs.Effects.{after_operation};
-ghost use Rattle.k_types.specs.Local.{AreLocal, is_local};
+ghost use Rattle.k_base.specs.k_types.Cells.{book_part, part, touches, Cell};
+ghost use Rattle.k_base.specs.k_types.Effects.{after_operation};
+ghost use Rattle.k_base.specs.k_types.Local.{AreLocal, is_local};
 ghost use Rattle.k_frame.specs.Alike.{Alike};
-ghost use Rattle.k_types.specs.Names.{among, heap_eq};
-ghost use Rattle.k_types.specs.Owners.{user};
-ghost use Rattle.k_types.specs.Replies.{reply_to};
-ghost use Rattle.k_types.specs.State.{State};
-ghost use Rattle.k_types.specs.Steps.{IsLegalHistory, IsPossible, state_after, touch_count};
-ghost use Rattle.k_types.specs.Trace.{Trace, process_count};
-ghost use Rattle.k_types.specs.declared.event.Event.{Event};
-ghost use Rattle.k_types.specs.declared.event.Event.TheVariants.{Done};
-ghost use Rattle.k_types.specs.declared.event.Reply.{Reply};
-ghost use Rattle.k_types.specs.declared.names.Pid.{Pid};
-ghost use Rattle.k_types.specs.declared.op.Op.{Op};
+ghost use Rattle.k_base.specs.k_types.Names.{among, heap_eq};
+ghost use Rattle.k_base.specs.k_types.Owners.{user};
+ghost use Rattle.k_base.specs.k_types.Replies.{reply_to};
+ghost use Rattle.k_base.specs.k_types.State.{State};
+ghost use Rattle.k_base.specs.k_types.Steps.{IsLegalHistory, IsPossible, state_after, touch_count};
+ghost use Rattle.k_base.specs.k_types.Trace.{Trace, process_count};
+ghost use Rattle.k_base.specs.k_types.declared.event.Event.{Event};
+ghost use Rattle.k_base.specs.k_types.declared.event.Event.TheVariants.{Done};
+ghost use Rattle.k_base.specs.k_types.declared.event.Reply.{Reply};
+ghost use Rattle.k_base.specs.k_types.declared.names.Pid.{Pid};
+ghost use Rattle.k_base.specs.k_types.declared.op.Op.{Op};
 
 /// A local operation goes by its process's cell alone: in two states where that cell's part is the same it is local in both,
 /// is answered the same, is possible in both and leaves the same part. It leaves the book's part, and touches no other cell.

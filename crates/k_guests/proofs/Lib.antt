@@ -6,3 +6,4 @@ pub use Rattle.k_locked.proofs.CanDo
 pub use Rattle.k_locked.proofs.Kept
 pub use Rattle.k_locked.proofs.LocalKept
 pub use Rattle.k_locked.proofs.Steps
+pub use Rattle.k_locked.proofs.Lists

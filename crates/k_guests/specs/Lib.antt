@@ -4,3 +4,4 @@ pub mod Reserve
 pub mod Objects
 pub mod Enough
 pub use Rattle.k_locked.specs.Keeping
+pub use Rattle.k_locked.specs as k_locked

@@ -1,1 +1,2 @@
 pub mod Shown
+pub use Rattle.k_cell.proofs.Grayed

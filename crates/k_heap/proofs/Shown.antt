@@ -7,8 +7,8 @@ use Rattle.k_types.specs.declared.names.Name.{Name}
 use Rattle.k_types.specs.declared.names.Pid.{Pid}
 use Rattle.k_types.specs.declared.setup.Setup.{Setup}
 use Rattle.k_types.specs.Names.{name_of}
-use Rattle.k_space.specs.Objects.{BodyValue}
-use Rattle.k_tie.specs.Values.{NoteValue}
+use Rattle.k_cell.specs.k_space.Objects.{BodyValue}
+use Rattle.k_cell.specs.k_tie.Values.{NoteValue}
 use Rattle.k_cell.specs.Holdings.{HoldingsValue, fresh_holdings}
 use Rattle.k_heap.specs.declared.heap.CellRooms.{CellRooms}
 use Rattle.k_heap.specs.Heaps.{heap_seen, of_process, opened_heap, own_segment, segments_of, with_register_in}

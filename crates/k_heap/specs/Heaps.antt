@@ -11,10 +11,10 @@ use Rattle.k_types.specs.Cells.{ProcessPart}
 use Rattle.k_types.specs.Names.{name_of}
 use Rattle.k_types.specs.Numbers.{numbers_below}
 use Rattle.k_types.specs.Trace.{trace_of}
-use Rattle.k_frame.specs.PartUpdates.{process_with_register}
+use Rattle.k_cell.specs.k_frame.PartUpdates.{process_with_register}
 use Rattle.k_cell.specs.CellChanges.{ended_process}
-use Rattle.k_space.specs.Objects.{BodyValue}
-use Rattle.k_tie.specs.Values.{NoteValue}
+use Rattle.k_cell.specs.k_space.Objects.{BodyValue}
+use Rattle.k_cell.specs.k_tie.Values.{NoteValue}
 use Rattle.k_cell.specs.Opening.{opening_cell}
 use Rattle.k_cell.specs.Holdings.{HoldingsValue}
 use Rattle.k_heap.specs.declared.heap.CellRooms.{CellRooms}

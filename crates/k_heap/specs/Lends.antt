@@ -1,7 +1,7 @@
 -- What a process's cell ends as, where its note is lent.
 use Rattle.std.specs.Borrow.{Lends, Fml, MutBor}
-use Rattle.k_tie.specs.Values.{NoteValue}
-use Rattle.k_tie.specs.contracts.note.Note.{the_row as note_row}
+use Rattle.k_cell.specs.k_tie.Values.{NoteValue}
+use Rattle.k_cell.specs.k_tie.contracts.note.Note.{the_row as note_row}
 use Rattle.k_heap.specs.Heaps.{HeapRecord}
 use Rattle.k_heap.specs.contracts.heap.HeapCell.{the_row as cell_row}
 

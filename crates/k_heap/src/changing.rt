@@ -17,8 +17,7 @@ ghost use Rattle.k_cell.specs.Holdings.{HasGivenSegment, HasObjectRoom};
 ghost use Rattle.k_heap.specs.Heaps.{holdings_of, own_segment};
 
 use crate::heap::HeapCell;
-use k_cell::{Listener, Swept};
-use k_space::{Body, Segment};
+use k_cell::{Body, Listener, Segment, Swept};
 use k_types::{Link, Name, Seg};
 
 impl HeapCell {

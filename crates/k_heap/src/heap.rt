@@ -3,10 +3,8 @@ ghost use Rattle.std.specs.Prelude.{◌≡◌, ◌<◌, ◌^◌, IfOk, length};
 ghost use Rattle.std.specs.Borrow.{sem};
 ghost use Rattle.k_heap.specs.Heaps.{opened_heap, segments_of};
 
-use k_cell::{HoldingRooms, Holdings};
+use k_cell::{Body, HoldingRooms, Holdings, Note};
 use k_io::NoMemory;
-use k_space::Body;
-use k_tie::Note;
 use k_types::{Event, Link, Pid, Seg, Setup};
 use std::alloc::Global;
 use std::collections::VecDeque;

@@ -1,13 +1,13 @@
 //! What the cell of a process changes of the process's own.
 ghost use Rattle.std.specs.Prelude.{◌≡◌, ◌<◌, ◌+◌, ◌-◌, ◌^◌, ◌∷◌, [], ◌++◌, length, option_map, OnErr, OnOk};
 ghost use Rattle.k_types.specs.Names.{name_of};
-ghost use Rattle.k_frame.specs.PartUpdates.{done_in};
+ghost use Rattle.k_cell.specs.k_frame.PartUpdates.{done_in};
 ghost use Rattle.k_cell.specs.GivingAway.{with_one_done};
 ghost use Rattle.k_heap.specs.Heaps.{with_process_ended, with_register_in};
 
 use crate::heap::HeapCell;
+use k_cell::Body;
 use k_io::NoMemory;
-use k_space::Body;
 use k_types::{Event, Link, Reg};
 use std::collections::VecDeque;
 use std::mem::replace;

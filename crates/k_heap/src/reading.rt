@@ -5,15 +5,15 @@ ghost use Rattle.k_types.specs.Names.{name_among, name_of};
 ghost use Rattle.k_types.specs.Owners.{object_bytes};
 ghost use Rattle.k_types.specs.State.{has};
 ghost use Rattle.k_types.specs.Totals.{total};
-ghost use Rattle.k_base.specs.Distinct.{AreDistinctNames};
-ghost use Rattle.k_frame.specs.PartUpdates.{done_in, held_in};
-ghost use Rattle.k_space.specs.Objects.{content_of};
+ghost use Rattle.k_cell.specs.k_base.Distinct.{AreDistinctNames};
+ghost use Rattle.k_cell.specs.k_frame.PartUpdates.{done_in, held_in};
+ghost use Rattle.k_cell.specs.k_space.Objects.{content_of};
 ghost use Rattle.k_cell.specs.Looks.{field_among, field_count_among, type_among};
 ghost use Rattle.k_cell.specs.Holdings.{HasObjectRoom};
 ghost use Rattle.k_heap.specs.Heaps.{has_ended_in, holdings_of, own_segment};
 
 use crate::heap::HeapCell;
-use k_space::Stored;
+use k_cell::Stored;
 use k_types::{CellPhase, Link, Name, Pid, Reg, Seg, TypeId};
 
 impl HeapCell {

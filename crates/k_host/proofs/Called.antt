@@ -14,13 +14,13 @@ use Rattle.k_moves.specs.Shown.{idle_part}
 use Rattle.k_shared.specs.SharedHeaps.{SharedRecord}
 use Rattle.k_squares.specs.Locals.{is_local_in}
 use Rattle.k_ends.specs.HostError.{HostError}
-use Rattle.k_guests.specs.declared.guest.Guest.{Guest}
+use Rattle.k_ends.specs.k_guests.declared.guest.Guest.{Guest}
 use Rattle.k_host.specs.Calls.{HasAbsorbedIn, HasChanged, HasDoneInsideIn, HasLeftOutside}
 use Rattle.k_ends.specs.Collecting.{HasAbsorbedNow}
 use Rattle.k_ends.specs.Doing.{HasDoneInside}
 use Rattle.k_host.specs.Hosts.{HostServes, HostValue}
 use Rattle.k_ends.specs.Refusals.{CanNotAbsorb}
-use Rattle.k_guests.specs.Serving.{Basis}
+use Rattle.k_ends.specs.k_guests.Serving.{Basis}
 
 -- the process of that number
 abbrev pub pid_of : ℕ → Pid

@@ -26,8 +26,8 @@ use Rattle.k_agree.proofs.Meetings.{meeting}
 use Rattle.k_book.specs.Books.{BookRecord}
 use Rattle.k_heap.specs.Heaps.{has_ended_in}
 use Rattle.k_solo.proofs.Known.{charge_small}
-use Rattle.k_guests.specs.declared.guest.Guest.{Guest}
-use Rattle.k_guests.specs.Serving.{Basis, BookServes, GuestServes, HasTailRoom}
+use Rattle.k_ends.specs.k_guests.declared.guest.Guest.{Guest}
+use Rattle.k_ends.specs.k_guests.Serving.{Basis, BookServes, GuestServes, HasTailRoom}
 use Rattle.k_host.proofs.Hosts.{KeepsRoom}
 use Rattle.k_host.specs.Asked.{charge_told as told_charge}
 use Rattle.k_host.specs.Calls.{HasMetTheJournal}

@@ -9,15 +9,15 @@ use Rattle.k_base.proofs.Maxima.{length_in}
 use Rattle.k_book.specs.Books.{BookRecord}
 use Rattle.k_cell.specs.Holdings.{HoldingsValue}
 use Rattle.k_shared.specs.SharedHeaps.{SharedRecord}
-use Rattle.k_guests.specs.declared.guest.Guest.{Guest}
-use Rattle.k_guests.specs.Serving.{Basis, BookServes, GuestServes, HasTailRoom, KeepsPair, KernelServes, SharedServes}
+use Rattle.k_ends.specs.k_guests.declared.guest.Guest.{Guest}
+use Rattle.k_ends.specs.k_guests.Serving.{Basis, BookServes, GuestServes, HasTailRoom, KeepsPair, KernelServes, SharedServes}
 use Rattle.k_ends.specs.Doing.{CanOperate, HasDoneInside, HasOperated}
 use Rattle.k_ends.proofs.Staying.{guests_set, guests_stay, heaps_set, heaps_stay, kernel_stays}
 use Rattle.k_ends.specs.Collecting.{HasAbsorbedNow, HasMarkedGuest}
 use Rattle.k_host.proofs.Called.{host_of, pid_of}
 use Rattle.k_host.specs.Calls.{HasOperatedAs}
 use Rattle.k_host.specs.Hosts.{HaveTailRoom, HostServes}
-use Rattle.k_process.proofs.Written.{get_set_cases}
+use Rattle.k_ends.proofs.Written.{get_set_cases}
 
 -- process and book serve still, and one event more of the process can be unpublished if it could before
 pub record KeepsRoom (basis : Basis) (g h : Guest) (b l : BookRecord) : Type 0 where

@@ -18,8 +18,8 @@ use Rattle.k_moves.proofs.Killing.{ends_by}
 use Rattle.k_moves.specs.Shown.{idle_part}
 use Rattle.k_shared.specs.SharedHeaps.{SharedRecord}
 use Rattle.k_squares.specs.Locals.{is_local_in}
-use Rattle.k_guests.specs.declared.guest.Guest.{Guest}
-use Rattle.k_guests.specs.Serving.{Basis, BookServes, GuestServes, HasTailRoom, KernelServes}
+use Rattle.k_ends.specs.k_guests.declared.guest.Guest.{Guest}
+use Rattle.k_ends.specs.k_guests.Serving.{Basis, BookServes, GuestServes, HasTailRoom, KernelServes}
 use Rattle.k_host.proofs.Hosts.{few_set, none_unpublished}
 use Rattle.k_ends.specs.HostError.{HostError}
 use Rattle.k_ends.specs.Doing.{HasOperated, left_after}

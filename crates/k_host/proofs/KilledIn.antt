@@ -8,8 +8,8 @@ use Rattle.k_types.specs.declared.op.Op.{Op}
 use Rattle.k_book.specs.Books.{BookRecord}
 use Rattle.k_cell.specs.Holdings.{HoldingsValue}
 use Rattle.k_shared.specs.SharedHeaps.{SharedRecord}
-use Rattle.k_guests.specs.declared.guest.Guest.{Guest}
-use Rattle.k_guests.specs.Serving.{Basis}
+use Rattle.k_ends.specs.k_guests.declared.guest.Guest.{Guest}
+use Rattle.k_ends.specs.k_guests.Serving.{Basis}
 use Rattle.k_ends.specs.HostError.{HostError}
 use Rattle.k_host.proofs.Called.{host_of}
 use Rattle.k_host.proofs.Killed.{kill_done, kill_kept, kill_refused, kill_same, killed_some, two_there}

@@ -9,3 +9,5 @@ pub mod KilledIn
 pub mod InsideCharges
 pub mod Charged
 pub use Rattle.k_ends.proofs.AbsorbKept
+pub use Rattle.k_ends.proofs.Objects
+pub use Rattle.k_ends.proofs.LocalKept

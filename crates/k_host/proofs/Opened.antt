@@ -14,11 +14,11 @@ use Rattle.k_words.specs.Words.{Text}
 use Rattle.k_trace.specs.declared.trace.Trace.{Trace as ReadTrace}
 use Rattle.k_trace.specs.Meaning.{meaning_of}
 use Rattle.k_trace.specs.Rules.{Spells}
-use Rattle.k_guests.specs.declared.terms.Terms.{Terms}
-use Rattle.k_guests.specs.declared.making.Parts.{Parts}
-use Rattle.k_guests.specs.declared.rooms.Rooms.{Rooms}
-use Rattle.k_guests.specs.Making.{AreFirstParts, AreFit}
-use Rattle.k_guests.specs.Serving.{basis_of, open_trace}
+use Rattle.k_ends.specs.k_guests.declared.terms.Terms.{Terms}
+use Rattle.k_ends.specs.k_guests.declared.making.Parts.{Parts}
+use Rattle.k_ends.specs.k_guests.declared.rooms.Rooms.{Rooms}
+use Rattle.k_ends.specs.k_guests.Making.{AreFirstParts, AreFit}
+use Rattle.k_ends.specs.k_guests.Serving.{basis_of, open_trace}
 use Rattle.k_host.specs.declared.errors.OpenError.{OpenError}
 use Rattle.k_host.specs.declared.errors.OpenError.TheVariants.{NoMemory, Bad, Terms as Unfit}
 use Rattle.k_host.specs.Hosts.{HaveTailRoom, HostValue, IsFresh}

@@ -4,7 +4,7 @@ use Rattle.std.specs.Prelude.{MatchOption}
 use Rattle.k_types.specs.declared.names.Pid.{Pid}
 use Rattle.k_types.specs.declared.names.SharedId.{SharedId}
 use Rattle.k_shared.specs.SharedHeaps.{SharedRecord}
-use Rattle.k_guests.specs.declared.guest.Guest.{Guest}
+use Rattle.k_ends.specs.k_guests.declared.guest.Guest.{Guest}
 use Rattle.k_ends.specs.HostError.{HostError}
 use Rattle.k_ends.specs.HostError.TheVariants.{Unknown}
 use Rattle.k_ends.specs.Refusals.{CanNotAbsorb}

@@ -6,7 +6,7 @@ use Rattle.k_types.specs.Totals.{total}
 use Rattle.k_frame.specs.PartUpdates.{done_in, held_in}
 use Rattle.k_agree.specs.GivingOnTheBook.{charged}
 use Rattle.k_heap.specs.Heaps.{has_ended_in}
-use Rattle.k_guests.specs.declared.guest.Guest.{Guest}
+use Rattle.k_ends.specs.k_guests.declared.guest.Guest.{Guest}
 use Rattle.k_host.specs.Hosts.{HostValue}
 
 -- the bytes of the process's own objects

@@ -6,9 +6,9 @@ use Rattle.k_types.specs.declared.names.CellPhase.TheVariants.{Idle}
 use Rattle.k_book.specs.Books.{BookRecord}
 use Rattle.k_cell.specs.Holdings.{HoldingsValue}
 use Rattle.k_shared.specs.SharedHeaps.{SharedRecord}
-use Rattle.k_guests.specs.declared.guest.Guest.{Guest}
-use Rattle.k_guests.specs.Making.{IsFirstGuest}
-use Rattle.k_guests.specs.Serving.{Basis, GuestsServe, HasTailRoom, RestServes}
+use Rattle.k_ends.specs.k_guests.declared.guest.Guest.{Guest}
+use Rattle.k_ends.specs.k_guests.Making.{IsFirstGuest}
+use Rattle.k_ends.specs.k_guests.Serving.{Basis, GuestsServe, HasTailRoom, RestServes}
 
 -- a host: what its parts have in common, its processes, the cells of the kernel and of the shared heaps, and the book
 pub record HostValue : Type 0 where

@@ -11,3 +11,5 @@ pub use Rattle.k_ends.specs.HostError
 pub use Rattle.k_ends.specs.CallsRefusals
 pub use Rattle.k_ends.specs.Doing
 pub use Rattle.k_mark.specs.Listening
+pub use Rattle.k_ends.specs.k_collect
+pub use Rattle.k_ends.specs.k_guests

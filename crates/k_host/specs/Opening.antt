@@ -6,9 +6,9 @@ use Rattle.k_words.specs.Words.{Text}
 use Rattle.k_trace.specs.Judgement.{IsBad}
 use Rattle.k_trace.specs.Named.{NamedTrace}
 use Rattle.k_trace.specs.Rules.{Spells}
-use Rattle.k_guests.specs.declared.terms.Terms.{Terms}
-use Rattle.k_guests.specs.declared.rooms.Rooms.{Rooms}
-use Rattle.k_guests.specs.Making.{AreEnough, AreFew, AreFit}
+use Rattle.k_ends.specs.k_guests.declared.terms.Terms.{Terms}
+use Rattle.k_ends.specs.k_guests.declared.rooms.Rooms.{Rooms}
+use Rattle.k_ends.specs.k_guests.Making.{AreEnough, AreFew, AreFit}
 use Rattle.k_host.specs.declared.errors.OpenError.{OpenError}
 use Rattle.k_host.specs.declared.errors.OpenError.TheVariants.{NoMemory, Bad, Terms as Unfit}
 use Rattle.k_host.specs.Hosts.{HostValue, IsFresh}

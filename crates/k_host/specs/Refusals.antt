@@ -3,7 +3,7 @@ use Rattle.std.specs.Prelude.{◌≡◌, ◌⊎◌, MatchOption, Some, slice_get
 use Rattle.k_types.specs.declared.names.Pid.{Pid}
 use Rattle.k_types.specs.declared.names.SharedId.{SharedId}
 use Rattle.k_types.specs.declared.op.Op.{Op}
-use Rattle.k_guests.specs.declared.guest.Guest.{Guest}
+use Rattle.k_ends.specs.k_guests.declared.guest.Guest.{Guest}
 use Rattle.k_ends.specs.HostError.{HostError}
 use Rattle.k_ends.specs.HostError.TheVariants.{Unknown}
 use Rattle.k_ends.specs.CallsRefusals.{CanNotOperate}

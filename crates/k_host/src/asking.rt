@@ -7,15 +7,14 @@ ghost use Rattle.k_types.specs.Totals.{total};
 ghost use Rattle.k_agree.specs.GivingOnTheBook.{charged};
 ghost use Rattle.k_limits.specs.Limits.{use_at};
 ghost use Rattle.k_book.specs.Books.{book_limits};
-ghost use Rattle.k_guests.specs.Serving.{basis_of};
+ghost use Rattle.k_ends.specs.k_guests.Serving.{basis_of};
 ghost use Rattle.k_host.specs.Asked.{charge_told, done_by, heap_bytes_of, held_by, has_ended_of};
 ghost use Rattle.k_host.specs.Calls.{HasMetIn, HasMetTheJournal};
 
 use crate::host::Host;
 use crate::places::place_of;
 use k_book::Book;
-use k_ends::HostError;
-use k_guests::{Guest, Terms};
+use k_ends::{Guest, HostError, Terms};
 use k_heap::HeapCell;
 use k_types::{LimitId, Name, Pid, REGISTERS, Reg, SharedId};
 

@@ -1,6 +1,6 @@
 //! Collections, absorptions and ends of processes, called on a host, and what a process does inside its heap.
 ghost use Rattle.std.specs.Prelude.{◌≡◌, ◌≤◌, IfErr, IfOk, MatchOption, OnErr, OnOk};
-ghost use Rattle.k_guests.specs.Objects.{objects_after};
+ghost use Rattle.k_ends.specs.k_guests.Objects.{objects_after};
 ghost use Rattle.k_ends.specs.CallsRefusals.{CanNotDoInside, CanNotPublish};
 ghost use Rattle.k_ends.specs.Refusals.{CanNotBegin, CanNotBeginKernel, CanNotEnd, CanNotEndKernel, CanNotExit, CanNotMark, CanNotMarkKernel, CanNotSettle, CanNotSettleKernel};
 ghost use Rattle.k_ends.specs.Whole.{AreFreedLast, CanNotCollect, CanNotCollectKernel};

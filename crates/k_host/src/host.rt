@@ -1,8 +1,8 @@
 //! A host of processes.
 ghost use Rattle.std.specs.Prelude.{◌≡◌, IfErr, IfOk, OnErr, OnOk};
 ghost use Rattle.k_types.specs.TraceRules.{KeepsRules};
-ghost use Rattle.k_guests.specs.Making.{AreFit};
-ghost use Rattle.k_guests.specs.Serving.{basis_of, open_trace};
+ghost use Rattle.k_ends.specs.k_guests.Making.{AreFit};
+ghost use Rattle.k_ends.specs.k_guests.Serving.{basis_of, open_trace};
 ghost use Rattle.k_host.specs.Calls.{HasOperatedIn};
 ghost use Rattle.k_host.specs.Hosts.{IsFresh};
 ghost use Rattle.k_host.specs.Opening.{HasRead, IsNotMade, IsNotRead};
@@ -12,8 +12,7 @@ use crate::errors::OpenError;
 use crate::killing::{kill_among, killed};
 use crate::places::place_of;
 use k_book::Book;
-use k_ends::{HostError, operate_with};
-use k_guests::{Guest, Rooms, Terms, are_fit, make_parts};
+use k_ends::{Guest, HostError, Rooms, Terms, are_fit, make_parts, operate_with};
 use k_kernel::KernelCell;
 use k_shared::SharedCell;
 use k_trace::{Trace, TraceError, read_trace};
@@ -32,7 +31,7 @@ pub struct Host {
 }
 
 impl Model for Host {
-    ghost use Rattle.k_guests.specs.Serving.{basis_of};
+    ghost use Rattle.k_ends.specs.k_guests.Serving.{basis_of};
     ghost use Rattle.k_host.specs.Hosts.{HostServes, HostValue};
 
     ghost Value = { HostValue };

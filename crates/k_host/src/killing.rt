@@ -1,13 +1,12 @@
 //! A kill among the processes of a host, which is lent two of them.
 ghost use Rattle.std.specs.Prelude.{◌≡◌, ◌≢◌, ◌<◌, length};
 ghost use Rattle.k_types.specs.declared.op.Op.TheVariants.{Kill};
-ghost use Rattle.k_guests.specs.declared.guest.Guest.{Guest as GuestValue};
-ghost use Rattle.k_guests.specs.Serving.{BookServes, GuestsServe, KernelServes, basis_of};
+ghost use Rattle.k_ends.specs.k_guests.declared.guest.Guest.{Guest as GuestValue};
+ghost use Rattle.k_ends.specs.k_guests.Serving.{BookServes, GuestsServe, KernelServes, basis_of};
 ghost use Rattle.k_host.specs.Killing.{AreTwoAt, HasKilledAmong, killed_among};
 
 use k_book::Book;
-use k_ends::{HostError, try_kill};
-use k_guests::{Guest, Terms};
+use k_ends::{Guest, HostError, Terms, try_kill};
 use k_kernel::KernelCell;
 use k_types::{Event, Op, Pid};
 

@@ -3,7 +3,7 @@ ghost use Rattle.std.specs.Prelude.{◌≡◌, ◌++◌, ℕ, Some, slice_get};
 ghost use Rattle.k_types.specs.Owners.{charge_of};
 ghost use Rattle.k_types.specs.Steps.{state_after};
 ghost use Rattle.k_agree.specs.Meeting.{Fits};
-ghost use Rattle.k_guests.specs.declared.guest.Guest.{Guest};
+ghost use Rattle.k_ends.specs.k_guests.declared.guest.Guest.{Guest};
 ghost use Rattle.k_host.specs.Asked.{charge_told};
 ghost use Rattle.k_host.specs.Hosts.{HostServes, HostValue};
 

@@ -25,8 +25,7 @@ mod twin;
 
 pub use errors::OpenError;
 pub use host::Host;
-pub use k_ends::HostError;
-pub use k_guests::{Rooms, Terms};
+pub use k_ends::{HostError, Rooms, Terms};
 pub use k_mark::Freed;
 pub use laws::charges_are_the_machines;
 pub use twin::Twin;

@@ -7,7 +7,7 @@ ghost use Rattle.k_host.specs.Twins.{first_twin};
 
 use crate::host::Host;
 use crate::twin::Twin;
-use k_guests::Rooms;
+use k_ends::Rooms;
 use k_io::NoMemory;
 use k_types::{CellPhase, Event, Name, Pid, SharedId};
 use std::alloc::Global;

@@ -1,8 +1,7 @@
 //! Where a process stands among those of a host.
 ghost use Rattle.std.specs.Prelude.{◌≡◌, ◌<◌, IfErr, IfOk, None, length, slice_get};
 
-use k_ends::HostError;
-use k_guests::Guest;
+use k_ends::{Guest, HostError};
 use k_types::Pid;
 
 /// The place of the process among the guests; `Unknown` comes where it is none of them. Constant time.

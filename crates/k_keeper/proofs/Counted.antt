@@ -21,16 +21,16 @@ use Rattle.k_types.specs.Trace.{Trace, segment_count}
 use Rattle.k_types.specs.Updates.{keep_exits, set_phase}
 use Rattle.k_agree.specs.Agreement.{Agrees}
 use Rattle.k_bounds.specs.Counts.{is_allocation}
-use Rattle.k_collect.specs.Settling.{IsTheEnd}
+use Rattle.k_host.specs.k_collect.Settling.{IsTheEnd}
 use Rattle.k_frame.proofs.Histories.{legal_front, legal_rest, run_append}
 use Rattle.k_moves.specs.Shown.{idle_part}
 use Rattle.k_squares.specs.Locals.{is_local_in}
 use Rattle.k_tie.specs.Values.{NoteValue}
-use Rattle.k_guests.specs.declared.guest.Guest.{Guest}
-use Rattle.k_guests.specs.Objects.{gone_by, made_by, objects_after}
-use Rattle.k_guests.specs.Enough.{lesser}
-use Rattle.k_guests.specs.Serving.{Basis}
-use Rattle.k_guests.proofs.Objects.{appended_counts, makes_none, published_counts}
+use Rattle.k_host.specs.k_guests.declared.guest.Guest.{Guest}
+use Rattle.k_host.specs.k_guests.Objects.{gone_by, made_by, objects_after}
+use Rattle.k_host.specs.k_guests.Enough.{lesser}
+use Rattle.k_host.specs.k_guests.Serving.{Basis}
+use Rattle.k_host.proofs.Objects.{appended_counts, makes_none, published_counts}
 use Rattle.k_host.specs.Calls.{HasAbsorbedIn, HasCollectedIn, HasCollectedKernelIn, HasExitedIn, HasKilledIn, HasOperatedAs, HasOperatedIn}
 use Rattle.k_host.specs.Doing.{IsKept as IsKeptInside, IsKeptAndPublished, IsRecorded}
 use Rattle.k_host.specs.HostError.{HostError}

@@ -12,8 +12,8 @@ use Rattle.k_types.specs.Totals.{total}
 use Rattle.k_book.specs.Books.{BookRecord}
 use Rattle.k_cell.specs.Holdings.{HoldingsValue}
 use Rattle.k_shared.specs.SharedHeaps.{SharedRecord}
-use Rattle.k_guests.specs.declared.guest.Guest.{Guest}
-use Rattle.k_guests.specs.Serving.{Basis}
+use Rattle.k_host.specs.k_guests.declared.guest.Guest.{Guest}
+use Rattle.k_host.specs.k_guests.Serving.{Basis}
 use Rattle.k_host.specs.Doing.{IsKept as IsKeptInside, IsKeptAndPublished, IsRecorded, LeavesOthers}
 use Rattle.k_host.specs.Asked.{has_ended_of}
 use Rattle.k_host.specs.Calls.{HasAbsorbedIn, HasCollectedIn, HasCollectedKernelIn, HasExitedIn, HasKilledIn, HasOperatedAs, HasOperatedIn}

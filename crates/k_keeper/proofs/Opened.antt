@@ -3,13 +3,13 @@ use Rattle.std.proofs.Common.{◌≡◌, ◌≤◌, ◌+◌, ◌-◌, ◌*◌, �
 use Rattle.k_types.specs.declared.names.Name.{Name}
 use Rattle.k_types.specs.declared.names.TypeId.{TypeId}
 use Rattle.k_words.specs.Words.{Text}
-use Rattle.k_guests.specs.Serving.{Basis}
+use Rattle.k_host.specs.k_guests.Serving.{Basis}
 use Rattle.k_host.specs.declared.errors.OpenError.TheVariants.{Terms}
 use Rattle.k_host.specs.Hosts.{HostValue, IsFresh}
 use Rattle.k_host.specs.Opening.{HasRead}
-use Rattle.k_guests.specs.declared.rooms.Rooms.{Rooms}
-use Rattle.k_guests.specs.Enough.{lesser}
-use Rattle.k_guests.specs.Objects.{objects_after}
+use Rattle.k_host.specs.k_guests.declared.rooms.Rooms.{Rooms}
+use Rattle.k_host.specs.k_guests.Enough.{lesser}
+use Rattle.k_host.specs.k_guests.Objects.{objects_after}
 use Rattle.k_types.specs.Trace.{process_count, segment_count}
 use Rattle.k_keeper.specs.Keeping.{IsKept, most_objects, needed_to_operate, objects_in, owed_by}
 use Rattle.k_keeper.specs.Kept.{HasFewEvents, HasOpened}

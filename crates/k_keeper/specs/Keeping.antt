@@ -5,9 +5,9 @@ use Rattle.k_types.specs.declared.event.Event.{Event}
 use Rattle.k_types.specs.declared.names.Name.{Name}
 use Rattle.k_types.specs.Totals.{total}
 use Rattle.k_types.specs.Trace.{segment_count}
-use Rattle.k_guests.specs.Enough.{greater, lesser}
-use Rattle.k_guests.specs.Objects.{gone_by, made_by, objects_after}
-use Rattle.k_guests.specs.declared.guest.Guest.{Guest}
+use Rattle.k_host.specs.k_guests.Enough.{greater, lesser}
+use Rattle.k_host.specs.k_guests.Objects.{gone_by, made_by, objects_after}
+use Rattle.k_host.specs.k_guests.declared.guest.Guest.{Guest}
 use Rattle.k_host.specs.HostError.{HostError}
 use Rattle.k_host.specs.Asked.{has_ended_of}
 use Rattle.k_host.specs.Hosts.{HostServes, HostValue}

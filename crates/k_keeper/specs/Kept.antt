@@ -9,8 +9,8 @@ use Rattle.k_types.specs.declared.op.Op.{Op}
 use Rattle.k_shares.specs.Sharers.{lowest_orphan}
 use Rattle.k_words.specs.Words.{Text}
 use Rattle.k_bounds.specs.Counts.{is_allocation}
-use Rattle.k_guests.specs.declared.guest.Guest.{Guest}
-use Rattle.k_guests.specs.declared.rooms.Rooms.{Rooms}
+use Rattle.k_host.specs.k_guests.declared.guest.Guest.{Guest}
+use Rattle.k_host.specs.k_guests.declared.rooms.Rooms.{Rooms}
 use Rattle.k_host.specs.HostError.{HostError}
 use Rattle.k_host.specs.HostError.TheVariants.{Ended, Objects, Reserved}
 use Rattle.k_host.specs.CallsRefusals.{Lacks}

@@ -12,6 +12,6 @@ mod keeper;
 mod rooms;
 mod taking;
 
-pub use k_host::{Host, HostError, OpenError, Rooms};
+pub use k_host::{Freed, Host, HostError, OpenError, Rooms, Twin};
 pub use keeper::Keeper;
 pub use taking::Taken;

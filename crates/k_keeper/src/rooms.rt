@@ -1,7 +1,7 @@
 //! How many events each call asks for and takes.
 ghost use Rattle.std.specs.Prelude.{◌≡◌, ◌+◌, ◌<◌, ◌≤◌, ◌^◌, ◌↔◌, IfErr, IsTrue, OnOk, length};
 ghost use Rattle.k_bounds.specs.Counts.{is_allocation};
-ghost use Rattle.k_guests.specs.Objects.{gone_by, made_by};
+ghost use Rattle.k_host.specs.k_guests.Objects.{gone_by, made_by};
 ghost use Rattle.k_host.specs.CallsRefusals.{Lacks};
 ghost use Rattle.k_host.specs.HostError.TheVariants.{Objects};
 ghost use Rattle.k_keeper.specs.Keeping.{CanCount, left_after, most_objects, needed_by_the_kernel, needed_to_absorb, needed_to_collect, needed_to_operate, objects_then};

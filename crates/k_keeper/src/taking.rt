@@ -1,6 +1,6 @@
 //! Events that are taken out of the journal of a host, each once.
 ghost use Rattle.std.specs.Prelude.{◌≡◌, ◌-◌, ◌<◌, ◌≤◌, ◌^◌, IfNone, IfSome, Some, length, slice_get};
-ghost use Rattle.k_guests.specs.Enough.{greater};
+ghost use Rattle.k_host.specs.k_guests.Enough.{greater};
 
 use k_host::Host;
 use k_types::Event;

@@ -2,30 +2,30 @@
 use Rattle.std.proofs.Common.{◌≡◌, ℕ, ◌<◌, ◌&&◌, ◌||◌, not, Bool, true, false, refl, sym, ap, ◌∙◌, inl, inr, List, [], ◌∷◌, Option, Some, None, is_some, IsTrue}
 use Rattle.std.specs.List.{list_all, list_any}
 use Rattle.std.proofs.lemmas.Bool.{and_parts, or_cases, false≢true, not-true}
-use Rattle.k_types.specs.declared.names.Heap.{Heap}
-use Rattle.k_types.specs.declared.names.Heap.TheVariants.{Kernel, Shared}
-use Rattle.k_types.specs.declared.names.Phase.{Phase}
-use Rattle.k_types.specs.declared.names.Phase.TheVariants.{Unmade, Populating, Frozen, Absorbed}
-use Rattle.k_types.specs.declared.op.Op.{Op}
-use Rattle.k_types.specs.declared.event.Event.{Event}
-use Rattle.k_types.specs.declared.event.Event.TheVariants.{Done, Ended, Absorbed as AbsorbedEvent, Closing}
-use Rattle.k_types.specs.declared.event.Fault.{Fault}
-use Rattle.k_types.specs.declared.event.Reply.TheVariants.{Refused}
-use Rattle.k_types.specs.Names.{heap_eq}
-use Rattle.k_types.specs.Trace.{Trace}
-use Rattle.k_types.specs.State.{State, Scan, is_scanned}
-use Rattle.k_types.specs.Owners.{phase_of}
-use Rattle.k_types.specs.Replies.{answer, faults, first_fault, refused_or, reply_to}
-use Rattle.k_types.specs.Updates.{count_done}
-use Rattle.k_types.specs.Effects.{after_operation, effect_unless}
-use Rattle.k_types.specs.Cells.{cells_touched, touches}
-use Rattle.k_types.specs.Steps.{IsPossible, has_sharer, is_live, is_orphan, no_orphan}
-use Rattle.k_types.specs.Sound.{IsSound}
-use Rattle.k_base.proofs.NameTests.{heap_eq-true}
-use Rattle.k_base.proofs.Numbered.{all_at_below}
+use Rattle.k_changes.specs.k_types.declared.names.Heap.{Heap}
+use Rattle.k_changes.specs.k_types.declared.names.Heap.TheVariants.{Kernel, Shared}
+use Rattle.k_changes.specs.k_types.declared.names.Phase.{Phase}
+use Rattle.k_changes.specs.k_types.declared.names.Phase.TheVariants.{Unmade, Populating, Frozen, Absorbed}
+use Rattle.k_changes.specs.k_types.declared.op.Op.{Op}
+use Rattle.k_changes.specs.k_types.declared.event.Event.{Event}
+use Rattle.k_changes.specs.k_types.declared.event.Event.TheVariants.{Done, Ended, Absorbed as AbsorbedEvent, Closing}
+use Rattle.k_changes.specs.k_types.declared.event.Fault.{Fault}
+use Rattle.k_changes.specs.k_types.declared.event.Reply.TheVariants.{Refused}
+use Rattle.k_changes.specs.k_types.Names.{heap_eq}
+use Rattle.k_changes.specs.k_types.Trace.{Trace}
+use Rattle.k_changes.specs.k_types.State.{State, Scan, is_scanned}
+use Rattle.k_changes.specs.k_types.Owners.{phase_of}
+use Rattle.k_changes.specs.k_types.Replies.{answer, faults, first_fault, refused_or, reply_to}
+use Rattle.k_changes.specs.k_types.Updates.{count_done}
+use Rattle.k_changes.specs.k_types.Effects.{after_operation, effect_unless}
+use Rattle.k_changes.specs.k_types.Cells.{cells_touched, touches}
+use Rattle.k_changes.specs.k_types.Steps.{IsPossible, has_sharer, is_live, is_orphan, no_orphan}
+use Rattle.k_changes.specs.k_types.Sound.{IsSound}
+use Rattle.k_changes.proofs.NameTests.{heap_eq-true}
+use Rattle.k_changes.proofs.Numbered.{all_at_below}
 use Rattle.k_kept.specs.Kept.{HasEndOf, IsPaidFor}
-use Rattle.k_base.proofs.Shares.{sharer_from}
-use Rattle.k_frame.proofs.Answers.{no_refusal}
+use Rattle.k_changes.proofs.Shares.{sharer_from}
+use Rattle.k_changes.proofs.Answers.{no_refusal}
 
 pub refused_counts : (trace : Trace) (st : State) (p : ℕ) (op : Op) (fault : Fault) → reply_to trace st p op ≡ Refused fault → after_operation trace p op st ≡ count_done p st
 unfolding reply_to after_operation

@@ -1,39 +1,39 @@
 -- Which events change a charge, and by how much the end of a collection does.
 use Rattle.std.proofs.Common.{◌≡◌, ◌≢◌, ℕ, ◌+◌, ◌*◌, ◌<◌, ◌==◌, ◌&&◌, not, Bool, true, false, cond, refl, sym, ap, ap₂, ◌∙◌, inl, inr, List, [], ◌∷◌, filter, is_some, arith, eqb-true, ne_eqb, eq-eqb, IsTrue, IsFalse, Option, Some, None}
 use Rattle.std.proofs.lemmas.Bool.{and_parts, cases_Bool, cases_eq, false≢true, false_from_ne_true, not-true, or_left, or_parts}
-use Rattle.k_types.specs.declared.names.Heap.{Heap}
-use Rattle.k_types.specs.declared.names.Heap.TheVariants.{Kernel}
-use Rattle.k_types.specs.declared.op.Op.{Op}
-use Rattle.k_types.specs.declared.op.Op.TheVariants.{Exit, Kill}
-use Rattle.k_types.specs.declared.event.Event.{Event}
-use Rattle.k_types.specs.declared.event.Event.TheVariants.{Done, Ended, Absorbed, Closing}
-use Rattle.k_types.specs.Names.{among, heap_eq}
-use Rattle.k_types.specs.Numbers.{numbers_below}
-use Rattle.k_types.specs.Totals.{total}
-use Rattle.k_types.specs.Trace.{Trace, limit_of, process_count}
-use Rattle.k_types.specs.TraceRules.{AreLimits, ends_a_process}
-use Rattle.k_types.specs.State.{State, Sharing, has_share, is_scanned}
-use Rattle.k_types.specs.Owners.{bytes_by, bytes_of, charge_of, object_bytes, phase_of, shared, user}
-use Rattle.k_types.specs.Limits.{limits_in, path_of, use_of}
-use Rattle.k_types.specs.Cells.{CellPart, part}
-use Rattle.k_types.specs.Replies.{faults, first_fault}
-use Rattle.k_types.specs.Updates.{close, close_scan, count_done, keep_exits, keep_objects, keep_shares, open_scan, set_phase}
-use Rattle.k_types.specs.Effects.{after_absorbed, after_closing, after_ended, after_operation, effect, share_stays, step, after_kill, after_end_of, effect_unless}
-use Rattle.k_types.specs.Steps.{IsPossible, has_sharer, is_live}
-use Rattle.k_types.specs.Sound.{IsSound}
+use Rattle.k_changes.specs.k_types.declared.names.Heap.{Heap}
+use Rattle.k_changes.specs.k_types.declared.names.Heap.TheVariants.{Kernel}
+use Rattle.k_changes.specs.k_types.declared.op.Op.{Op}
+use Rattle.k_changes.specs.k_types.declared.op.Op.TheVariants.{Exit, Kill}
+use Rattle.k_changes.specs.k_types.declared.event.Event.{Event}
+use Rattle.k_changes.specs.k_types.declared.event.Event.TheVariants.{Done, Ended, Absorbed, Closing}
+use Rattle.k_changes.specs.k_types.Names.{among, heap_eq}
+use Rattle.k_changes.specs.k_types.Numbers.{numbers_below}
+use Rattle.k_changes.specs.k_types.Totals.{total}
+use Rattle.k_changes.specs.k_types.Trace.{Trace, limit_of, process_count}
+use Rattle.k_changes.specs.k_types.TraceRules.{AreLimits, ends_a_process}
+use Rattle.k_changes.specs.k_types.State.{State, Sharing, has_share, is_scanned}
+use Rattle.k_changes.specs.k_types.Owners.{bytes_by, bytes_of, charge_of, object_bytes, phase_of, shared, user}
+use Rattle.k_changes.specs.k_types.Limits.{limits_in, path_of, use_of}
+use Rattle.k_changes.specs.k_types.Cells.{CellPart, part}
+use Rattle.k_changes.specs.k_types.Replies.{faults, first_fault}
+use Rattle.k_changes.specs.k_types.Updates.{close, close_scan, count_done, keep_exits, keep_objects, keep_shares, open_scan, set_phase}
+use Rattle.k_changes.specs.k_types.Effects.{after_absorbed, after_closing, after_ended, after_operation, effect, share_stays, step, after_kill, after_end_of, effect_unless}
+use Rattle.k_changes.specs.k_types.Steps.{IsPossible, has_sharer, is_live}
+use Rattle.k_changes.specs.k_types.Sound.{IsSound}
 use Rattle.k_changes.specs.Charges.{bytes_added, is_done_by}
-use Rattle.k_frame.proofs.ElsewhereOther.{absorbed_elsewhere, collected_elsewhere}
-use Rattle.k_frame.proofs.Kept.{any-fewer, distinct_shares-kept}
-use Rattle.k_base.proofs.NameTests.{heap_eq-true}
-use Rattle.k_base.proofs.Sums.{bit, sum_both, sum_same}
+use Rattle.k_changes.proofs.ElsewhereOther.{absorbed_elsewhere, collected_elsewhere}
+use Rattle.k_changes.proofs.Kept.{any-fewer, distinct_shares-kept}
+use Rattle.k_changes.proofs.NameTests.{heap_eq-true}
+use Rattle.k_changes.proofs.Sums.{bit, sum_both, sum_same}
 use Rattle.k_changes.proofs.Charged.{operation_charges}
 use Rattle.k_changes.proofs.Ending.{other_charge}
 use Rattle.k_changes.proofs.UsesRaised.{uses_raised}
 use Rattle.k_changes.proofs.SharedSums.{shares_sum}
 use Rattle.k_kept.specs.Kept.{Credits, bytes_dropped, is_end_of, is_kill_of}
 use Rattle.k_kept.proofs.EndNumbers.{numbers_are_right}
-use Rattle.k_types.specs.declared.event.Fault.{Fault}
-use Rattle.k_base.proofs.Lists.{filter_stronger}
+use Rattle.k_changes.specs.k_types.declared.event.Fault.{Fault}
+use Rattle.k_changes.proofs.Lists.{filter_stronger}
 
 -- a sum over some shares of what is the same for every heap but one that nobody shares
 sum_apart : (f g : ℕ → ℕ) (q s : ℕ) (shares : List Sharing) → IsFalse (has_sharer shares s) → ((t : ℕ) → t ≢ s → f t ≡ g t) →

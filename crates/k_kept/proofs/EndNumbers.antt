@@ -1,17 +1,17 @@
 -- What goes at the end of a collection is what its numbers tell.
 use Rattle.std.proofs.Common.{◌≡◌, ℕ, ◌+◌, not, suc, Bool, true, false, cond, refl, sym, ap, ◌∙◌, List, [], ◌∷◌, filter, length, arith}
 use Rattle.std.proofs.lemmas.Bool.{false≢true, or_left}
-use Rattle.k_types.specs.declared.names.Heap.{Heap}
-use Rattle.k_types.specs.declared.event.Event.TheVariants.{Ended}
-use Rattle.k_types.specs.Names.{heap_eq}
-use Rattle.k_types.specs.Totals.{total}
-use Rattle.k_types.specs.Trace.{Trace}
-use Rattle.k_types.specs.State.{State, Object}
-use Rattle.k_types.specs.Owners.{bytes_by, object_bytes, owner_of}
-use Rattle.k_types.specs.Updates.{close_scan, keep_exits, keep_objects, keep_shares}
-use Rattle.k_types.specs.Effects.{after_ended, exit_stays, share_stays, step, survives}
-use Rattle.k_types.specs.Steps.{IsPossible}
-use Rattle.k_base.proofs.Sums.{bit, count_is_total}
+use Rattle.k_changes.specs.k_types.declared.names.Heap.{Heap}
+use Rattle.k_changes.specs.k_types.declared.event.Event.TheVariants.{Ended}
+use Rattle.k_changes.specs.k_types.Names.{heap_eq}
+use Rattle.k_changes.specs.k_types.Totals.{total}
+use Rattle.k_changes.specs.k_types.Trace.{Trace}
+use Rattle.k_changes.specs.k_types.State.{State, Object}
+use Rattle.k_changes.specs.k_types.Owners.{bytes_by, object_bytes, owner_of}
+use Rattle.k_changes.specs.k_types.Updates.{close_scan, keep_exits, keep_objects, keep_shares}
+use Rattle.k_changes.specs.k_types.Effects.{after_ended, exit_stays, share_stays, step, survives}
+use Rattle.k_changes.specs.k_types.Steps.{IsPossible}
+use Rattle.k_changes.proofs.Sums.{bit, count_is_total}
 use Rattle.k_kept.specs.Kept.{GoesBy}
 
 -- what a test keeps and what it drops are together all

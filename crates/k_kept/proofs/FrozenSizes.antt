@@ -1,36 +1,36 @@
 -- A frozen heap keeps its phase and its bytes until it is absorbed.
 use Rattle.std.proofs.Common.{◌≡◌, ℕ, ◌+◌, ◌*◌, ◌<◌, ◌==◌, not, ◌||◌, Bool, true, false, cond, refl, sym, ap, ◌∙◌, inl, inr, ◌⊎◌, [], ◌∷◌, Option, Some, None, is_some, set, arith, ne_eqb, eq-eqb, IsFalse}
 use Rattle.std.proofs.lemmas.Bool.{cases_eq, false≢true, false_from_ne_true, not-false}
-use Rattle.k_types.specs.declared.names.Name.{Name}
-use Rattle.k_types.specs.declared.names.TypeId.{TypeId}
-use Rattle.k_types.specs.declared.names.Heap.{Heap}
-use Rattle.k_types.specs.declared.names.Heap.TheVariants.{Kernel}
-use Rattle.k_types.specs.declared.names.Phase.{Phase}
-use Rattle.k_types.specs.declared.names.Phase.TheVariants.{Unmade, Populating, Frozen}
-use Rattle.k_types.specs.declared.op.Op.{Op}
-use Rattle.k_types.specs.declared.op.Op.TheVariants.{New, KNew, SNew, Store, Put, Share, Freeze, Exit, Kill}
-use Rattle.k_types.specs.declared.event.Event.{Event}
-use Rattle.k_types.specs.declared.event.Event.TheVariants.{Done, Ended, Absorbed, Closing}
-use Rattle.k_types.specs.declared.event.Fault.{Fault}
-use Rattle.k_types.specs.declared.event.Fault.TheVariants.{NotPopulating, Segv, Taken}
-use Rattle.k_types.specs.Names.{among, heap_eq}
-use Rattle.k_types.specs.Totals.{total}
-use Rattle.k_types.specs.Trace.{Trace, process_count, kinds_of, size_of_type}
-use Rattle.k_types.specs.State.{State, Refers, Holds, is_scanned, register}
-use Rattle.k_types.specs.Owners.{bytes_by, bytes_of, is_absorbed, object_bytes, owner_of, phase_of, shared, user}
-use Rattle.k_types.specs.Replies.{at_base, fault_where, faults, first_fault, is_populating, is_unmade}
-use Rattle.k_types.specs.Updates.{add_exit, add_share, clear_registers, count_done, create, end_process, keep_shares, open_scan, set_phase, set_register, turn_exits, write, set_max}
-use Rattle.k_types.specs.Effects.{after_end_of, after_freeze, after_operation, after_put, after_store, effect, effect_unless, step, with_exit_of_store, after_kill}
-use Rattle.k_types.specs.Cells.{CellPart, cells_touched, part, touches}
-use Rattle.k_types.specs.Steps.{IsPossible}
-use Rattle.k_types.specs.Sound.{IsSound}
-use Rattle.k_frame.proofs.Bytes.{bytes-written}
-use Rattle.k_frame.proofs.FrameSteps.{frame, none_on}
-use Rattle.k_base.proofs.Lists.{get_or-set_cases}
-use Rattle.k_base.proofs.NameTests.{heap_eq-true}
-use Rattle.k_frame.proofs.OwnerOf.{owner_kernel, owner_shared, owner_user}
-use Rattle.k_frame.proofs.Rest.{put_rest, store_rest}
-use Rattle.k_base.proofs.Sums.{bit}
+use Rattle.k_changes.specs.k_types.declared.names.Name.{Name}
+use Rattle.k_changes.specs.k_types.declared.names.TypeId.{TypeId}
+use Rattle.k_changes.specs.k_types.declared.names.Heap.{Heap}
+use Rattle.k_changes.specs.k_types.declared.names.Heap.TheVariants.{Kernel}
+use Rattle.k_changes.specs.k_types.declared.names.Phase.{Phase}
+use Rattle.k_changes.specs.k_types.declared.names.Phase.TheVariants.{Unmade, Populating, Frozen}
+use Rattle.k_changes.specs.k_types.declared.op.Op.{Op}
+use Rattle.k_changes.specs.k_types.declared.op.Op.TheVariants.{New, KNew, SNew, Store, Put, Share, Freeze, Exit, Kill}
+use Rattle.k_changes.specs.k_types.declared.event.Event.{Event}
+use Rattle.k_changes.specs.k_types.declared.event.Event.TheVariants.{Done, Ended, Absorbed, Closing}
+use Rattle.k_changes.specs.k_types.declared.event.Fault.{Fault}
+use Rattle.k_changes.specs.k_types.declared.event.Fault.TheVariants.{NotPopulating, Segv, Taken}
+use Rattle.k_changes.specs.k_types.Names.{among, heap_eq}
+use Rattle.k_changes.specs.k_types.Totals.{total}
+use Rattle.k_changes.specs.k_types.Trace.{Trace, process_count, kinds_of, size_of_type}
+use Rattle.k_changes.specs.k_types.State.{State, Refers, Holds, is_scanned, register}
+use Rattle.k_changes.specs.k_types.Owners.{bytes_by, bytes_of, is_absorbed, object_bytes, owner_of, phase_of, shared, user}
+use Rattle.k_changes.specs.k_types.Replies.{at_base, fault_where, faults, first_fault, is_populating, is_unmade}
+use Rattle.k_changes.specs.k_types.Updates.{add_exit, add_share, clear_registers, count_done, create, end_process, keep_shares, open_scan, set_phase, set_register, turn_exits, write, set_max}
+use Rattle.k_changes.specs.k_types.Effects.{after_end_of, after_freeze, after_operation, after_put, after_store, effect, effect_unless, step, with_exit_of_store, after_kill}
+use Rattle.k_changes.specs.k_types.Cells.{CellPart, cells_touched, part, touches}
+use Rattle.k_changes.specs.k_types.Steps.{IsPossible}
+use Rattle.k_changes.specs.k_types.Sound.{IsSound}
+use Rattle.k_changes.proofs.Bytes.{bytes-written}
+use Rattle.k_changes.proofs.FrameSteps.{frame, none_on}
+use Rattle.k_changes.proofs.Lists.{get_or-set_cases}
+use Rattle.k_changes.proofs.NameTests.{heap_eq-true}
+use Rattle.k_changes.proofs.OwnerOf.{owner_kernel, owner_shared, owner_user}
+use Rattle.k_changes.proofs.Rest.{put_rest, store_rest}
+use Rattle.k_changes.proofs.Sums.{bit}
 use Rattle.k_changes.proofs.Ending.{same_bytes}
 use Rattle.k_changes.proofs.SoundEffects.{is_populating_by, is_unmade_so}
 use Rattle.k_changes.proofs.SoundNew.{bytes_after}

@@ -1,28 +1,28 @@
 -- The laws of this crate, one lemma a clause under the law's name, for the crates above to cite.
 use Rattle.std.specs.Prelude.{IsFalse, ◌+◌, ◌<◌, ◌≡◌, ℕ, List, ◌++◌, IsTrue, ◌⊎◌}
-use Rattle.k_types.specs.Cells.{touches}
-use Rattle.k_types.specs.Effects.{step, after_operation}
-use Rattle.k_types.specs.Names.{among}
-use Rattle.k_types.specs.Owners.{charge_of, user, owner_of, phase_of}
-use Rattle.k_types.specs.Replies.{reply_to}
-use Rattle.k_types.specs.Sound.{IsSound}
-use Rattle.k_types.specs.State.{State, is_scanned}
-use Rattle.k_types.specs.Steps.{IsPossible, state_after}
-use Rattle.k_types.specs.Trace.{Trace, process_count}
-use Rattle.k_types.specs.TraceRules.{AreLimits}
-use Rattle.k_types.specs.Updates.{count_done}
-use Rattle.k_types.specs.declared.event.Event.{Event}
-use Rattle.k_types.specs.declared.event.Event.TheVariants.{Ended, Closing, Done, Absorbed}
-use Rattle.k_types.specs.declared.event.Fault.{Fault}
-use Rattle.k_types.specs.declared.event.Reply.{Reply}
-use Rattle.k_types.specs.declared.event.Reply.TheVariants.{Refused}
-use Rattle.k_types.specs.declared.names.Heap.{Heap}
-use Rattle.k_types.specs.declared.names.Heap.TheVariants.{Kernel}
-use Rattle.k_types.specs.declared.names.Name.{Name}
-use Rattle.k_types.specs.declared.names.Phase.TheVariants.{Frozen}
-use Rattle.k_types.specs.declared.names.Pid.{Pid}
-use Rattle.k_types.specs.declared.op.Op.{Op}
-use Rattle.k_types.specs.declared.op.Op.TheVariants.{KCollect}
+use Rattle.k_changes.specs.k_types.Cells.{touches}
+use Rattle.k_changes.specs.k_types.Effects.{step, after_operation}
+use Rattle.k_changes.specs.k_types.Names.{among}
+use Rattle.k_changes.specs.k_types.Owners.{charge_of, user, owner_of, phase_of}
+use Rattle.k_changes.specs.k_types.Replies.{reply_to}
+use Rattle.k_changes.specs.k_types.Sound.{IsSound}
+use Rattle.k_changes.specs.k_types.State.{State, is_scanned}
+use Rattle.k_changes.specs.k_types.Steps.{IsPossible, state_after}
+use Rattle.k_changes.specs.k_types.Trace.{Trace, process_count}
+use Rattle.k_changes.specs.k_types.TraceRules.{AreLimits}
+use Rattle.k_changes.specs.k_types.Updates.{count_done}
+use Rattle.k_changes.specs.k_types.declared.event.Event.{Event}
+use Rattle.k_changes.specs.k_types.declared.event.Event.TheVariants.{Ended, Closing, Done, Absorbed}
+use Rattle.k_changes.specs.k_types.declared.event.Fault.{Fault}
+use Rattle.k_changes.specs.k_types.declared.event.Reply.{Reply}
+use Rattle.k_changes.specs.k_types.declared.event.Reply.TheVariants.{Refused}
+use Rattle.k_changes.specs.k_types.declared.names.Heap.{Heap}
+use Rattle.k_changes.specs.k_types.declared.names.Heap.TheVariants.{Kernel}
+use Rattle.k_changes.specs.k_types.declared.names.Name.{Name}
+use Rattle.k_changes.specs.k_types.declared.names.Phase.TheVariants.{Frozen}
+use Rattle.k_changes.specs.k_types.declared.names.Pid.{Pid}
+use Rattle.k_changes.specs.k_types.declared.op.Op.{Op}
+use Rattle.k_changes.specs.k_types.declared.op.Op.TheVariants.{KCollect}
 use Rattle.k_kept.proofs.Answering.{refused_counts, no_orphan_paid, left_alone}
 use Rattle.k_kept.proofs.Charging.{charge_kept, credited}
 use Rattle.k_kept.proofs.EndNumbers.{numbers_are_right}

@@ -6,3 +6,17 @@ pub mod Owning
 pub mod Reaching
 pub mod Serials
 pub mod Laws
+pub use Rattle.k_changes.proofs.Lists
+pub use Rattle.k_changes.proofs.Maxima
+pub use Rattle.k_changes.proofs.NameTests
+pub use Rattle.k_changes.proofs.Numbered
+pub use Rattle.k_changes.proofs.Objects
+pub use Rattle.k_changes.proofs.Ordered
+pub use Rattle.k_changes.proofs.Owners
+pub use Rattle.k_changes.proofs.Sums
+pub use Rattle.k_changes.proofs.Constant
+pub use Rattle.k_changes.proofs.Effects
+pub use Rattle.k_changes.proofs.Histories
+pub use Rattle.k_changes.proofs.Rest
+pub use Rattle.k_changes.proofs.Sizes
+pub use Rattle.k_changes.proofs.Tails

@@ -1,31 +1,31 @@
 -- Who has ended stays ended, and a segment's owner stays or becomes the kernel.
 use Rattle.std.proofs.Common.{◌≡◌, ℕ, ◌-◌, ◌==◌, nat_le, not, true, false, cond, refl, sym, ap, ◌∙◌, inl, inr, ◌⊎◌, List, [], ◌∷◌, ◌++◌, Option, Some, None, set, IsTrue, IsFalse}
 use Rattle.std.proofs.lemmas.Bool.{false≢true, false_from_ne_true, not-false}
-use Rattle.k_types.specs.declared.names.Name.{Name}
-use Rattle.k_types.specs.declared.names.Heap.TheVariants.{Kernel}
-use Rattle.k_types.specs.declared.names.Phase.{Phase}
-use Rattle.k_types.specs.declared.names.Phase.TheVariants.{Unmade, Populating, Frozen, Absorbed}
-use Rattle.k_types.specs.declared.op.Op.{Op}
-use Rattle.k_types.specs.declared.op.Op.TheVariants.{Store, Put, Share, Freeze, Kill}
-use Rattle.k_types.specs.declared.event.Event.{Event}
-use Rattle.k_types.specs.declared.event.Event.TheVariants.{Done, Ended, Absorbed as AbsorbedEvent, Closing}
-use Rattle.k_types.specs.declared.event.Fault.{Fault}
-use Rattle.k_types.specs.declared.event.Fault.TheVariants.{NotPopulating, Segv, Taken}
-use Rattle.k_types.specs.Names.{among, heap_eq}
-use Rattle.k_types.specs.Trace.{Trace, process_count}
-use Rattle.k_types.specs.State.{State, opening, register}
-use Rattle.k_types.specs.Owners.{is_absorbed, owner_of, owner_of_process, owner_of_segment, owner_of_shared, phase_of, shared, user}
-use Rattle.k_types.specs.Replies.{at_base, fault_where, faults, first_fault, is_populating, is_unmade}
-use Rattle.k_types.specs.Updates.{add_share, clear_registers, close, close_scan, count_done, create, end_process, keep_exits, keep_objects, keep_shares, open_scan, set_phase, set_register, turn_exits, set_max}
-use Rattle.k_types.specs.Effects.{after_absorbed, after_closing, after_end_of, after_ended, after_freeze, after_operation, effect, effect_unless, step}
-use Rattle.k_types.specs.Steps.{run, state_after}
-use Rattle.k_frame.proofs.FrameSteps.{none_on}
-use Rattle.k_base.proofs.Lists.{get_or-set_cases}
-use Rattle.k_frame.proofs.Rest.{put_rest, store_rest, kill_rest}
-use Rattle.k_frame.proofs.Histories.{run_append}
+use Rattle.k_changes.specs.k_types.declared.names.Name.{Name}
+use Rattle.k_changes.specs.k_types.declared.names.Heap.TheVariants.{Kernel}
+use Rattle.k_changes.specs.k_types.declared.names.Phase.{Phase}
+use Rattle.k_changes.specs.k_types.declared.names.Phase.TheVariants.{Unmade, Populating, Frozen, Absorbed}
+use Rattle.k_changes.specs.k_types.declared.op.Op.{Op}
+use Rattle.k_changes.specs.k_types.declared.op.Op.TheVariants.{Store, Put, Share, Freeze, Kill}
+use Rattle.k_changes.specs.k_types.declared.event.Event.{Event}
+use Rattle.k_changes.specs.k_types.declared.event.Event.TheVariants.{Done, Ended, Absorbed as AbsorbedEvent, Closing}
+use Rattle.k_changes.specs.k_types.declared.event.Fault.{Fault}
+use Rattle.k_changes.specs.k_types.declared.event.Fault.TheVariants.{NotPopulating, Segv, Taken}
+use Rattle.k_changes.specs.k_types.Names.{among, heap_eq}
+use Rattle.k_changes.specs.k_types.Trace.{Trace, process_count}
+use Rattle.k_changes.specs.k_types.State.{State, opening, register}
+use Rattle.k_changes.specs.k_types.Owners.{is_absorbed, owner_of, owner_of_process, owner_of_segment, owner_of_shared, phase_of, shared, user}
+use Rattle.k_changes.specs.k_types.Replies.{at_base, fault_where, faults, first_fault, is_populating, is_unmade}
+use Rattle.k_changes.specs.k_types.Updates.{add_share, clear_registers, close, close_scan, count_done, create, end_process, keep_exits, keep_objects, keep_shares, open_scan, set_phase, set_register, turn_exits, set_max}
+use Rattle.k_changes.specs.k_types.Effects.{after_absorbed, after_closing, after_end_of, after_ended, after_freeze, after_operation, effect, effect_unless, step}
+use Rattle.k_changes.specs.k_types.Steps.{run, state_after}
+use Rattle.k_changes.proofs.FrameSteps.{none_on}
+use Rattle.k_changes.proofs.Lists.{get_or-set_cases}
+use Rattle.k_changes.proofs.Rest.{put_rest, store_rest, kill_rest}
+use Rattle.k_changes.proofs.Histories.{run_append}
 use Rattle.k_changes.proofs.SoundEffects.{is_populating_by, is_unmade_so}
 use Rattle.k_kept.specs.Kept.{KeepsOrGives}
-use Rattle.k_frame.proofs.Effects.{unless_ended}
+use Rattle.k_changes.proofs.Effects.{unless_ended}
 
 module _ (trace : Trace) where
   pub step_ended : (st : State) (event : Event) (q : ℕ) → IsTrue (among q st.ended) → IsTrue (among q (step trace st event).ended)

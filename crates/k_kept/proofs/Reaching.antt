@@ -4,41 +4,41 @@ use Rattle.std.proofs.Common.{◌≡◌, ◌≢◌, ◌⊎◌, ℕ, ◌+◌, ◌
 use Rattle.std.proofs.lemmas.Bool.{or_left, or_parts, not-false, false≢true, false_from_ne_true}
 use Rattle.std.proofs.Math.Bool.{and-true, or-false}
 use Rattle.std.proofs.lemmas.List.Folds.{list_any-append}
-use Rattle.k_types.specs.declared.names.Name.{Name}
-use Rattle.k_types.specs.declared.names.Heap.{Heap}
-use Rattle.k_types.specs.declared.names.Heap.TheVariants.{Kernel, User, Shared}
-use Rattle.k_types.specs.declared.names.Pid.{Pid}
-use Rattle.k_types.specs.declared.names.Phase.{Phase}
-use Rattle.k_types.specs.declared.names.Phase.TheVariants.{Unmade, Populating, Frozen, Absorbed}
-use Rattle.k_types.specs.declared.op.Op.{Op}
-use Rattle.k_types.specs.declared.op.Op.TheVariants.{Store, Load, Put, Get, Share, Freeze, Attach, Exit, Kill}
-use Rattle.k_types.specs.declared.event.Event.{Event}
-use Rattle.k_types.specs.declared.event.Event.TheVariants.{Done, Ended, Absorbed as AbsorbedEvent, Closing}
-use Rattle.k_types.specs.declared.event.Fault.{Fault}
-use Rattle.k_types.specs.declared.event.Fault.TheVariants.{ProcNotBelow}
+use Rattle.k_changes.specs.k_types.declared.names.Name.{Name}
+use Rattle.k_changes.specs.k_types.declared.names.Heap.{Heap}
+use Rattle.k_changes.specs.k_types.declared.names.Heap.TheVariants.{Kernel, User, Shared}
+use Rattle.k_changes.specs.k_types.declared.names.Pid.{Pid}
+use Rattle.k_changes.specs.k_types.declared.names.Phase.{Phase}
+use Rattle.k_changes.specs.k_types.declared.names.Phase.TheVariants.{Unmade, Populating, Frozen, Absorbed}
+use Rattle.k_changes.specs.k_types.declared.op.Op.{Op}
+use Rattle.k_changes.specs.k_types.declared.op.Op.TheVariants.{Store, Load, Put, Get, Share, Freeze, Attach, Exit, Kill}
+use Rattle.k_changes.specs.k_types.declared.event.Event.{Event}
+use Rattle.k_changes.specs.k_types.declared.event.Event.TheVariants.{Done, Ended, Absorbed as AbsorbedEvent, Closing}
+use Rattle.k_changes.specs.k_types.declared.event.Fault.{Fault}
+use Rattle.k_changes.specs.k_types.declared.event.Fault.TheVariants.{ProcNotBelow}
 use Rattle.std.specs.List.{list_any}
-use Rattle.k_types.specs.Cells.{Cell, CellPart, access_cell, base_cell, cells_touched, other_cells, part, touches}
-use Rattle.k_types.specs.Effects.{after_absorbed, after_closing, after_end_of, after_ended, after_kill, after_operation, effect, effect_unless, share_stays, step}
-use Rattle.k_types.specs.Limits.{is_above}
-use Rattle.k_types.specs.Names.{among, heap_eq}
-use Rattle.k_types.specs.Owners.{is_absorbed, owner_of, owner_of_segment, phase_of, shared, user}
-use Rattle.k_types.specs.Replies.{ends_other, faults, first_fault}
-use Rattle.k_types.specs.State.{Sharing, State, has_share, opening, register}
-use Rattle.k_types.specs.Steps.{IsLegalHistory, run, state_after, touch_count, touch_count_from}
-use Rattle.k_types.specs.Trace.{Trace, process_count}
-use Rattle.k_types.specs.TraceRules.{AreLimits}
-use Rattle.k_types.specs.Updates.{add_share, clear_registers, close, close_scan, count_done, create, end_process, keep_exits, keep_objects, keep_shares, open_scan, set_max, set_phase, set_register, turn_exits}
-use Rattle.k_frame.proofs.FrameSteps.{none_on}
-use Rattle.k_frame.proofs.Histories.{run_append}
-use Rattle.k_frame.proofs.Kept.{has_share-kept}
-use Rattle.k_frame.proofs.Rest.{freeze_rest, put_rest, store_rest}
-use Rattle.k_frame.proofs.Untouched.{none_touch, untouched}
-use Rattle.k_frame.specs.PartUpdates.{held_in}
+use Rattle.k_changes.specs.k_types.Cells.{Cell, CellPart, access_cell, base_cell, cells_touched, other_cells, part, touches}
+use Rattle.k_changes.specs.k_types.Effects.{after_absorbed, after_closing, after_end_of, after_ended, after_kill, after_operation, effect, effect_unless, share_stays, step}
+use Rattle.k_changes.specs.k_types.Limits.{is_above}
+use Rattle.k_changes.specs.k_types.Names.{among, heap_eq}
+use Rattle.k_changes.specs.k_types.Owners.{is_absorbed, owner_of, owner_of_segment, phase_of, shared, user}
+use Rattle.k_changes.specs.k_types.Replies.{ends_other, faults, first_fault}
+use Rattle.k_changes.specs.k_types.State.{Sharing, State, has_share, opening, register}
+use Rattle.k_changes.specs.k_types.Steps.{IsLegalHistory, run, state_after, touch_count, touch_count_from}
+use Rattle.k_changes.specs.k_types.Trace.{Trace, process_count}
+use Rattle.k_changes.specs.k_types.TraceRules.{AreLimits}
+use Rattle.k_changes.specs.k_types.Updates.{add_share, clear_registers, close, close_scan, count_done, create, end_process, keep_exits, keep_objects, keep_shares, open_scan, set_max, set_phase, set_register, turn_exits}
+use Rattle.k_changes.proofs.FrameSteps.{none_on}
+use Rattle.k_changes.proofs.Histories.{run_append}
+use Rattle.k_changes.proofs.Kept.{has_share-kept}
+use Rattle.k_changes.proofs.Rest.{freeze_rest, put_rest, store_rest}
+use Rattle.k_changes.proofs.Untouched.{none_touch, untouched}
+use Rattle.k_changes.specs.k_frame.PartUpdates.{held_in}
 use Rattle.k_changes.proofs.SoundSteps.{legal_sound}
 use Rattle.k_kept.specs.Kept.{KeepsOrGives}
 use Rattle.k_kept.specs.Reached.{StaysOrEnds, StaysOrTurns}
 use Rattle.k_kept.proofs.Owning.{owner_after, stays_ended}
-use Rattle.k_base.proofs.Shares.{sharer_of}
+use Rattle.k_changes.proofs.Shares.{sharer_of}
 
 -- a share of another process leaves whether the process has one
 added_apart : (shares : List Sharing) (q p t s : ℕ) → IsFalse (q == p) → has_share (shares ++ record { process = q; heap = t } ∷ []) p s ≡ has_share shares p s

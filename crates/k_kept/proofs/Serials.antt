@@ -1,29 +1,29 @@
 -- Serials are given once.
 use Rattle.std.proofs.Common.{◌≡◌, ℕ, ◌+◌, ◌<◌, true, false, refl, sym, ap, ◌∙◌, inl, inr, List, [], ◌∷◌, ◌++◌, map, Option, Some, None, get_or, subst, arith, le_of_eq, le_trans, IsTrue}
 use Rattle.std.proofs.lemmas.Bool.{and_parts, or_cases, false≢true, false_from_ne_true}
-use Rattle.k_types.specs.declared.names.Name.{Name}
-use Rattle.k_types.specs.declared.names.TypeId.{TypeId}
-use Rattle.k_types.specs.declared.op.Op.{Op}
-use Rattle.k_types.specs.declared.op.Op.TheVariants.{New, KNew, SNew, Store, Put, Freeze, Kill}
-use Rattle.k_types.specs.declared.event.Event.{Event}
-use Rattle.k_types.specs.declared.event.Event.TheVariants.{Done, Ended, Absorbed, Closing}
-use Rattle.k_types.specs.declared.event.Fault.{Fault}
-use Rattle.k_types.specs.declared.names.Heap.TheVariants.{Kernel, Shared}
-use Rattle.k_types.specs.Names.{name_eq}
-use Rattle.k_types.specs.Trace.{Trace, kinds_of, segment_of}
-use Rattle.k_types.specs.State.{State, Refers, Holds, fresh, has, opening, register}
-use Rattle.k_types.specs.Owners.{user}
-use Rattle.k_types.specs.Replies.{faults, first_fault}
-use Rattle.k_types.specs.Updates.{add_share, clear_registers, close, close_scan, count_done, create, end_process, keep_exits, keep_objects, keep_shares, next_name, open_scan, set_phase, set_register, turn_exits, write, set_max}
-use Rattle.k_types.specs.Effects.{after_absorbed, after_closing, after_end_of, after_ended, after_new, after_operation, after_put, after_store, effect, effect_unless, step, survives, with_exit_of_store}
-use Rattle.k_types.specs.Steps.{run, state_after}
-use Rattle.k_base.proofs.NameTests.{name_eq-true}
-use Rattle.k_base.proofs.Lists.{get_or-set_cases}
-use Rattle.k_base.proofs.Objects.{has-kept, has-placed, has-written}
-use Rattle.k_frame.proofs.Rest.{freeze_rest, put_rest, store_rest, kill_rest}
-use Rattle.k_frame.proofs.Histories.{run_append}
+use Rattle.k_changes.specs.k_types.declared.names.Name.{Name}
+use Rattle.k_changes.specs.k_types.declared.names.TypeId.{TypeId}
+use Rattle.k_changes.specs.k_types.declared.op.Op.{Op}
+use Rattle.k_changes.specs.k_types.declared.op.Op.TheVariants.{New, KNew, SNew, Store, Put, Freeze, Kill}
+use Rattle.k_changes.specs.k_types.declared.event.Event.{Event}
+use Rattle.k_changes.specs.k_types.declared.event.Event.TheVariants.{Done, Ended, Absorbed, Closing}
+use Rattle.k_changes.specs.k_types.declared.event.Fault.{Fault}
+use Rattle.k_changes.specs.k_types.declared.names.Heap.TheVariants.{Kernel, Shared}
+use Rattle.k_changes.specs.k_types.Names.{name_eq}
+use Rattle.k_changes.specs.k_types.Trace.{Trace, kinds_of, segment_of}
+use Rattle.k_changes.specs.k_types.State.{State, Refers, Holds, fresh, has, opening, register}
+use Rattle.k_changes.specs.k_types.Owners.{user}
+use Rattle.k_changes.specs.k_types.Replies.{faults, first_fault}
+use Rattle.k_changes.specs.k_types.Updates.{add_share, clear_registers, close, close_scan, count_done, create, end_process, keep_exits, keep_objects, keep_shares, next_name, open_scan, set_phase, set_register, turn_exits, write, set_max}
+use Rattle.k_changes.specs.k_types.Effects.{after_absorbed, after_closing, after_end_of, after_ended, after_new, after_operation, after_put, after_store, effect, effect_unless, step, survives, with_exit_of_store}
+use Rattle.k_changes.specs.k_types.Steps.{run, state_after}
+use Rattle.k_changes.proofs.NameTests.{name_eq-true}
+use Rattle.k_changes.proofs.Lists.{get_or-set_cases}
+use Rattle.k_changes.proofs.Objects.{has-kept, has-placed, has-written}
+use Rattle.k_changes.proofs.Rest.{freeze_rest, put_rest, store_rest, kill_rest}
+use Rattle.k_changes.proofs.Histories.{run_append}
 use Rattle.k_kept.specs.Kept.{GivesSerials, IsSpent}
-use Rattle.k_frame.proofs.Effects.{linked_objects}
+use Rattle.k_changes.proofs.Effects.{linked_objects}
 
 same_gives : (st after : State) → after.made ≡ st.made → ((n : Name) → IsTrue (has after.objects n) → IsTrue (has st.objects n)) → GivesSerials st after
 same_gives st after made back = record {

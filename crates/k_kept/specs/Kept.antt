@@ -1,19 +1,19 @@
 -- What events leave of a state, and what exactly they change.
 use Rattle.std.specs.Prelude.{◌≡◌, ◌≢◌, ◌<◌, ◌≤◌, ◌⊎◌, ℕ, ◌+◌, ◌&&◌, not, Bool, false, IsTrue, IsFalse, length, slice_index_or, if◌then◌else◌, ◌==◌}
-use Rattle.k_types.specs.declared.names.Name.{Name}
-use Rattle.k_types.specs.declared.names.Heap.{Heap}
-use Rattle.k_types.specs.declared.names.Heap.TheVariants.{Kernel}
-use Rattle.k_types.specs.declared.names.Phase.TheVariants.{Unmade, Absorbed}
-use Rattle.k_types.specs.declared.event.Event.{Event}
-use Rattle.k_types.specs.declared.event.Event.TheVariants.{Done, Ended, Absorbed as AbsorbedEvent, Closing}
-use Rattle.k_types.specs.Names.{among, heap_eq}
-use Rattle.k_types.specs.Numbers.{numbers_below}
-use Rattle.k_types.specs.Totals.{total}
-use Rattle.k_types.specs.Trace.{Trace, limit_of}
-use Rattle.k_types.specs.State.{State, has, has_share}
-use Rattle.k_types.specs.Owners.{bytes_of, charge_of, owner_of, phase_of, shared, user}
-use Rattle.k_types.specs.Limits.{limits_in, path_of, use_of}
-use Rattle.k_types.specs.declared.op.Op.TheVariants.{Kill}
+use Rattle.k_changes.specs.k_types.declared.names.Name.{Name}
+use Rattle.k_changes.specs.k_types.declared.names.Heap.{Heap}
+use Rattle.k_changes.specs.k_types.declared.names.Heap.TheVariants.{Kernel}
+use Rattle.k_changes.specs.k_types.declared.names.Phase.TheVariants.{Unmade, Absorbed}
+use Rattle.k_changes.specs.k_types.declared.event.Event.{Event}
+use Rattle.k_changes.specs.k_types.declared.event.Event.TheVariants.{Done, Ended, Absorbed as AbsorbedEvent, Closing}
+use Rattle.k_changes.specs.k_types.Names.{among, heap_eq}
+use Rattle.k_changes.specs.k_types.Numbers.{numbers_below}
+use Rattle.k_changes.specs.k_types.Totals.{total}
+use Rattle.k_changes.specs.k_types.Trace.{Trace, limit_of}
+use Rattle.k_changes.specs.k_types.State.{State, has, has_share}
+use Rattle.k_changes.specs.k_types.Owners.{bytes_of, charge_of, owner_of, phase_of, shared, user}
+use Rattle.k_changes.specs.k_types.Limits.{limits_in, path_of, use_of}
+use Rattle.k_changes.specs.k_types.declared.op.Op.TheVariants.{Kill}
 
 -- the shared heap is unmade or absorbed, or some process shares it
 abbrev pub IsPaidFor : State → ℕ → Type 0

@@ -1,10 +1,10 @@
 -- How the cells change that an operation touches.
 use Rattle.std.specs.Prelude.{◌≡◌, ◌⊎◌, List, [], ◌∷◌, IsTrue}
-use Rattle.k_types.specs.declared.names.Heap.TheVariants.{Kernel, User}
-use Rattle.k_types.specs.declared.names.Pid.{Pid}
-use Rattle.k_types.specs.Cells.{Cell}
-use Rattle.k_types.specs.Names.{among}
-use Rattle.k_types.specs.State.{State}
+use Rattle.k_changes.specs.k_types.declared.names.Heap.TheVariants.{Kernel, User}
+use Rattle.k_changes.specs.k_types.declared.names.Pid.{Pid}
+use Rattle.k_changes.specs.k_types.Cells.{Cell}
+use Rattle.k_changes.specs.k_types.Names.{among}
+use Rattle.k_changes.specs.k_types.State.{State}
 
 -- the cells stay, or they were none and are the kernel's
 abbrev pub StaysOrTurns : List Cell → List Cell → Type 0

@@ -2,15 +2,15 @@
 ghost use Rattle.std.specs.Prelude.{IsFalse, ◌+◌, ◌<◌, ◌≡◌, ℕ};
 ghost use Rattle.k_kept.specs.Kept.{Credits, bytes_dropped, is_end_of, is_kill_of};
 ghost use Rattle.k_changes.specs.Charges.{is_done_by};
-ghost use Rattle.k_types.specs.Effects.{step};
-ghost use Rattle.k_types.specs.Owners.{charge_of, user};
-ghost use Rattle.k_types.specs.Sound.{IsSound};
-ghost use Rattle.k_types.specs.State.{State};
-ghost use Rattle.k_types.specs.Steps.{IsPossible};
-ghost use Rattle.k_types.specs.Trace.{Trace, process_count};
-ghost use Rattle.k_types.specs.TraceRules.{AreLimits};
-ghost use Rattle.k_types.specs.declared.event.Event.{Event};
-ghost use Rattle.k_types.specs.declared.event.Event.TheVariants.{Ended};
+ghost use Rattle.k_changes.specs.k_types.Effects.{step};
+ghost use Rattle.k_changes.specs.k_types.Owners.{charge_of, user};
+ghost use Rattle.k_changes.specs.k_types.Sound.{IsSound};
+ghost use Rattle.k_changes.specs.k_types.State.{State};
+ghost use Rattle.k_changes.specs.k_types.Steps.{IsPossible};
+ghost use Rattle.k_changes.specs.k_types.Trace.{Trace, process_count};
+ghost use Rattle.k_changes.specs.k_types.TraceRules.{AreLimits};
+ghost use Rattle.k_changes.specs.k_types.declared.event.Event.{Event};
+ghost use Rattle.k_changes.specs.k_types.declared.event.Event.TheVariants.{Ended};
 
 /// What a process is charged changes only by its own operations, by a kill of it, and by the ends of its own heap's collections.
 ///

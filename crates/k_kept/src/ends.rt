@@ -1,12 +1,12 @@
 //! What the end of a collection tells.
 ghost use Rattle.std.specs.Prelude.{ℕ};
 ghost use Rattle.k_kept.specs.Kept.{GoesBy};
-ghost use Rattle.k_types.specs.Effects.{step};
-ghost use Rattle.k_types.specs.State.{State};
-ghost use Rattle.k_types.specs.Steps.{IsPossible};
-ghost use Rattle.k_types.specs.Trace.{Trace};
-ghost use Rattle.k_types.specs.declared.event.Event.TheVariants.{Ended};
-ghost use Rattle.k_types.specs.declared.names.Heap.{Heap};
+ghost use Rattle.k_changes.specs.k_types.Effects.{step};
+ghost use Rattle.k_changes.specs.k_types.State.{State};
+ghost use Rattle.k_changes.specs.k_types.Steps.{IsPossible};
+ghost use Rattle.k_changes.specs.k_types.Trace.{Trace};
+ghost use Rattle.k_changes.specs.k_types.declared.event.Event.TheVariants.{Ended};
+ghost use Rattle.k_changes.specs.k_types.declared.names.Heap.{Heap};
 
 /// The end of a collection tells exactly what goes: by its four numbers fall the objects, the bytes of the heap, the exit items and
 /// the shares.

@@ -1,12 +1,12 @@
 //! Serials are given once.
 ghost use Rattle.std.specs.Prelude.{List, ◌++◌};
 ghost use Rattle.k_kept.specs.Kept.{GivesSerials, IsSpent};
-ghost use Rattle.k_types.specs.Effects.{step};
-ghost use Rattle.k_types.specs.State.{State};
-ghost use Rattle.k_types.specs.Steps.{state_after};
-ghost use Rattle.k_types.specs.Trace.{Trace};
-ghost use Rattle.k_types.specs.declared.event.Event.{Event};
-ghost use Rattle.k_types.specs.declared.names.Name.{Name};
+ghost use Rattle.k_changes.specs.k_types.Effects.{step};
+ghost use Rattle.k_changes.specs.k_types.State.{State};
+ghost use Rattle.k_changes.specs.k_types.Steps.{state_after};
+ghost use Rattle.k_changes.specs.k_types.Trace.{Trace};
+ghost use Rattle.k_changes.specs.k_types.declared.event.Event.{Event};
+ghost use Rattle.k_changes.specs.k_types.declared.names.Name.{Name};
 
 /// Serials are never given again: a new object has a serial above all that its segment gave before, so an object that is gone does
 /// not come back.

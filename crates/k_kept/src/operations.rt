@@ -1,23 +1,23 @@
 //! When operations do nothing, and when they wait.
 ghost use Rattle.std.specs.Prelude.{IsTrue, ◌<◌, ◌≡◌, ℕ};
 ghost use Rattle.k_kept.specs.Kept.{HasEndOf, IsPaidFor};
-ghost use Rattle.k_types.specs.Cells.{touches};
-ghost use Rattle.k_types.specs.Effects.{after_operation};
-ghost use Rattle.k_types.specs.Replies.{reply_to};
-ghost use Rattle.k_types.specs.Sound.{IsSound};
-ghost use Rattle.k_types.specs.State.{State, is_scanned};
-ghost use Rattle.k_types.specs.Steps.{IsPossible};
-ghost use Rattle.k_types.specs.Trace.{Trace};
-ghost use Rattle.k_types.specs.Updates.{count_done};
-ghost use Rattle.k_types.specs.declared.event.Event.{Event};
-ghost use Rattle.k_types.specs.declared.event.Event.TheVariants.{Closing, Done};
-ghost use Rattle.k_types.specs.declared.event.Fault.{Fault};
-ghost use Rattle.k_types.specs.declared.event.Reply.{Reply};
-ghost use Rattle.k_types.specs.declared.event.Reply.TheVariants.{Refused};
-ghost use Rattle.k_types.specs.declared.names.Heap.{Heap};
-ghost use Rattle.k_types.specs.declared.names.Pid.{Pid};
-ghost use Rattle.k_types.specs.declared.op.Op.{Op};
-ghost use Rattle.k_types.specs.declared.op.Op.TheVariants.{KCollect};
+ghost use Rattle.k_changes.specs.k_types.Cells.{touches};
+ghost use Rattle.k_changes.specs.k_types.Effects.{after_operation};
+ghost use Rattle.k_changes.specs.k_types.Replies.{reply_to};
+ghost use Rattle.k_changes.specs.k_types.Sound.{IsSound};
+ghost use Rattle.k_changes.specs.k_types.State.{State, is_scanned};
+ghost use Rattle.k_changes.specs.k_types.Steps.{IsPossible};
+ghost use Rattle.k_changes.specs.k_types.Trace.{Trace};
+ghost use Rattle.k_changes.specs.k_types.Updates.{count_done};
+ghost use Rattle.k_changes.specs.k_types.declared.event.Event.{Event};
+ghost use Rattle.k_changes.specs.k_types.declared.event.Event.TheVariants.{Closing, Done};
+ghost use Rattle.k_changes.specs.k_types.declared.event.Fault.{Fault};
+ghost use Rattle.k_changes.specs.k_types.declared.event.Reply.{Reply};
+ghost use Rattle.k_changes.specs.k_types.declared.event.Reply.TheVariants.{Refused};
+ghost use Rattle.k_changes.specs.k_types.declared.names.Heap.{Heap};
+ghost use Rattle.k_changes.specs.k_types.declared.names.Pid.{Pid};
+ghost use Rattle.k_changes.specs.k_types.declared.op.Op.{Op};
+ghost use Rattle.k_changes.specs.k_types.declared.op.Op.TheVariants.{KCollect};
 
 /// A refused operation changes the count of operations done and nothing else.
 pub fn refused_operations_only_count()

@@ -1,14 +1,14 @@
 //! Processes end once, and segments change their owner once.
 ghost use Rattle.std.specs.Prelude.{IsTrue, List, ◌++◌, ◌≡◌, ℕ};
 ghost use Rattle.k_kept.specs.Kept.{KeepsOrGives};
-ghost use Rattle.k_types.specs.Effects.{step};
-ghost use Rattle.k_types.specs.Names.{among};
-ghost use Rattle.k_types.specs.Owners.{owner_of};
-ghost use Rattle.k_types.specs.State.{State};
-ghost use Rattle.k_types.specs.Steps.{state_after};
-ghost use Rattle.k_types.specs.Trace.{Trace};
-ghost use Rattle.k_types.specs.declared.event.Event.{Event};
-ghost use Rattle.k_types.specs.declared.names.Heap.TheVariants.{Kernel};
+ghost use Rattle.k_changes.specs.k_types.Effects.{step};
+ghost use Rattle.k_changes.specs.k_types.Names.{among};
+ghost use Rattle.k_changes.specs.k_types.Owners.{owner_of};
+ghost use Rattle.k_changes.specs.k_types.State.{State};
+ghost use Rattle.k_changes.specs.k_types.Steps.{state_after};
+ghost use Rattle.k_changes.specs.k_types.Trace.{Trace};
+ghost use Rattle.k_changes.specs.k_types.declared.event.Event.{Event};
+ghost use Rattle.k_changes.specs.k_types.declared.names.Heap.TheVariants.{Kernel};
 
 /// A process that has ended stays ended.
 pub fn ended_processes_stay_ended()

@@ -1,15 +1,15 @@
 //! How the cells change that the next operation of a process touches.
 ghost use Rattle.std.specs.Prelude.{List, ◌++◌, ◌≡◌, ◌≢◌, ℕ};
 ghost use Rattle.k_kept.specs.Reached.{StaysOrEnds, StaysOrTurns};
-ghost use Rattle.k_types.specs.Cells.{other_cells};
-ghost use Rattle.k_types.specs.Owners.{user};
-ghost use Rattle.k_types.specs.Steps.{IsLegalHistory, state_after, touch_count};
-ghost use Rattle.k_types.specs.Trace.{Trace};
-ghost use Rattle.k_types.specs.TraceRules.{AreLimits};
-ghost use Rattle.k_types.specs.declared.event.Event.{Event};
-ghost use Rattle.k_types.specs.declared.names.Pid.{Pid};
-ghost use Rattle.k_types.specs.declared.op.Op.{Op};
-ghost use Rattle.k_types.specs.declared.op.Op.TheVariants.{Kill};
+ghost use Rattle.k_changes.specs.k_types.Cells.{other_cells};
+ghost use Rattle.k_changes.specs.k_types.Owners.{user};
+ghost use Rattle.k_changes.specs.k_types.Steps.{IsLegalHistory, state_after, touch_count};
+ghost use Rattle.k_changes.specs.k_types.Trace.{Trace};
+ghost use Rattle.k_changes.specs.k_types.TraceRules.{AreLimits};
+ghost use Rattle.k_changes.specs.k_types.declared.event.Event.{Event};
+ghost use Rattle.k_changes.specs.k_types.declared.names.Pid.{Pid};
+ghost use Rattle.k_changes.specs.k_types.declared.op.Op.{Op};
+ghost use Rattle.k_changes.specs.k_types.declared.op.Op.TheVariants.{Kill};
 
 /// While no event touches the cell of a process, the cells that its next operation touches beside it change at most once: from none to
 /// the kernel's, which takes over the object with the shared heap that it absorbs or with the heap of another process that ends. Those

@@ -1,16 +1,16 @@
 //! Frozen heaps are as large as they are.
 ghost use Rattle.std.specs.Prelude.{◌≡◌, ◌⊎◌, ℕ};
 ghost use Rattle.k_kept.specs.Kept.{StaysFrozen};
-ghost use Rattle.k_types.specs.Effects.{step};
-ghost use Rattle.k_types.specs.Owners.{phase_of};
-ghost use Rattle.k_types.specs.Sound.{IsSound};
-ghost use Rattle.k_types.specs.State.{State};
-ghost use Rattle.k_types.specs.Steps.{IsPossible};
-ghost use Rattle.k_types.specs.Trace.{Trace};
-ghost use Rattle.k_types.specs.declared.event.Event.{Event};
-ghost use Rattle.k_types.specs.declared.event.Event.TheVariants.{Absorbed};
-ghost use Rattle.k_types.specs.declared.names.Name.{Name};
-ghost use Rattle.k_types.specs.declared.names.Phase.TheVariants.{Frozen};
+ghost use Rattle.k_changes.specs.k_types.Effects.{step};
+ghost use Rattle.k_changes.specs.k_types.Owners.{phase_of};
+ghost use Rattle.k_changes.specs.k_types.Sound.{IsSound};
+ghost use Rattle.k_changes.specs.k_types.State.{State};
+ghost use Rattle.k_changes.specs.k_types.Steps.{IsPossible};
+ghost use Rattle.k_changes.specs.k_types.Trace.{Trace};
+ghost use Rattle.k_changes.specs.k_types.declared.event.Event.{Event};
+ghost use Rattle.k_changes.specs.k_types.declared.event.Event.TheVariants.{Absorbed};
+ghost use Rattle.k_changes.specs.k_types.declared.names.Name.{Name};
+ghost use Rattle.k_changes.specs.k_types.declared.names.Phase.TheVariants.{Frozen};
 
 /// A frozen heap keeps its phase and its bytes until it is absorbed.
 ///

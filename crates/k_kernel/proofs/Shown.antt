@@ -3,8 +3,8 @@ use Rattle.std.proofs.Common.{◌≡◌, ◌==◌, ℕ, zero, suc, ◌+◌, ◌<
 use Rattle.k_types.specs.declared.setup.Setup.{Setup}
 use Rattle.k_types.specs.Numbers.{numbers_below}
 use Rattle.k_cell.specs.CellChanges.{given}
-use Rattle.k_space.specs.Objects.{new_directory}
-use Rattle.k_tie.specs.Values.{NoteValue}
+use Rattle.k_cell.specs.k_space.Objects.{new_directory}
+use Rattle.k_cell.specs.k_tie.Values.{NoteValue}
 use Rattle.k_cell.specs.declared.rooms.HoldingRooms.{HoldingRooms}
 use Rattle.k_cell.specs.Changes.{with_body}
 use Rattle.k_cell.specs.Holdings.{HasObjectRoom, fresh_cell, fresh_holdings}

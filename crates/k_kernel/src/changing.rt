@@ -8,7 +8,7 @@ ghost use Rattle.k_types.specs.State.{Holds, Refers};
 ghost use Rattle.k_types.specs.Totals.{total};
 ghost use Rattle.k_types.specs.declared.names.CellPhase.TheVariants.{Begun, Idle, Marked};
 ghost use Rattle.k_types.specs.declared.names.Name.{Name as Named};
-ghost use Rattle.k_space.specs.Segments.{made, segment_bytes};
+ghost use Rattle.k_cell.specs.k_space.Segments.{made, segment_bytes};
 ghost use Rattle.k_cell.specs.Marking.{begun};
 ghost use Rattle.k_cell.specs.Ending.{freed_bytes, freed_objects};
 ghost use Rattle.k_cell.specs.Looks.{field_among, field_count_among};
@@ -17,8 +17,7 @@ ghost use Rattle.k_cell.specs.Listening.{AreTold};
 ghost use Rattle.k_cell.specs.Holdings.{HasObjectRoom, with_segment_added};
 
 use crate::kernel::KernelCell;
-use k_cell::{Listener, Swept};
-use k_space::{Body, Segment};
+use k_cell::{Body, Listener, Segment, Swept};
 use k_types::{Link, Name, Seg};
 
 impl KernelCell {

@@ -3,10 +3,8 @@ ghost use Rattle.std.specs.Prelude.{◌≡◌, ◌<◌, ◌≤◌, ◌^◌, IfOk
 ghost use Rattle.std.specs.Borrow.{sem};
 ghost use Rattle.k_kernel.specs.Kernels.{opened_kernel, segments_of};
 
-use k_cell::{HoldingRooms, Holdings};
+use k_cell::{Body, HoldingRooms, Holdings, Note};
 use k_io::NoMemory;
-use k_space::Body;
-use k_tie::Note;
 use k_types::{Seg, Setup};
 use std::alloc::Global;
 use std::marker::Model;

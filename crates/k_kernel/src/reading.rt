@@ -6,12 +6,12 @@ ghost use Rattle.k_types.specs.Owners.{object_bytes};
 ghost use Rattle.k_types.specs.State.{has};
 ghost use Rattle.k_types.specs.Totals.{total};
 ghost use Rattle.k_base.specs.Distinct.{AreDistinctNames};
-ghost use Rattle.k_space.specs.Objects.{content_of};
+ghost use Rattle.k_cell.specs.k_space.Objects.{content_of};
 ghost use Rattle.k_cell.specs.Holdings.{HasObjectRoom};
 ghost use Rattle.k_cell.specs.Looks.{field_among, field_count_among, type_among};
 
 use crate::kernel::KernelCell;
-use k_space::Stored;
+use k_cell::Stored;
 use k_types::{CellPhase, Link, Name, Seg, Serial, Slot, TypeId};
 
 impl KernelCell {

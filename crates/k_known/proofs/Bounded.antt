@@ -17,15 +17,15 @@ use Rattle.k_types.specs.Replies.{faults, first_fault}
 use Rattle.k_types.specs.Updates.{add_share, clear_registers, close, close_scan, count_done, create, end_process, keep_exits, keep_objects, keep_shares, open_scan, set_phase, set_register, turn_exits, set_max}
 use Rattle.k_types.specs.Effects.{after_absorbed, after_closing, after_end_of, after_ended, after_operation, effect, effect_unless, share_stays, step, after_kill}
 use Rattle.k_types.specs.Steps.{IsLegalHistory, run, state_after}
-use Rattle.k_frame.proofs.Histories.{legal_front, legal_rest}
-use Rattle.k_frame.proofs.Rest.{freeze_rest, put_rest, store_rest}
+use Rattle.k_kept.proofs.Histories.{legal_front, legal_rest}
+use Rattle.k_kept.proofs.Rest.{freeze_rest, put_rest, store_rest}
 use Rattle.k_bounds.specs.Counts.{is_operation, one_if, operation_count}
 use Rattle.k_bounds.proofs.AllExits.{exits_at_most_stores}
 use Rattle.k_bounds.proofs.Counting.{total_fewer}
 use Rattle.k_kept.proofs.EndNumbers.{numbers_are_right}
 use Rattle.k_known.specs.Fits.{AreEndNumbers, HasFewFields}
 use Rattle.k_known.proofs.Fitting.{objects_bounded}
-use Rattle.k_base.proofs.Lists.{length-kept}
+use Rattle.k_kept.proofs.Lists.{length-kept}
 
 module _ (trace : Trace) where
   added : (b : Bool) (shares : List Sharing) (e : Sharing) → length (cond b shares (shares ++ e ∷ [])) ≤ length shares + 1

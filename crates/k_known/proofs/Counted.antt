@@ -13,8 +13,8 @@ use Rattle.k_types.specs.TraceRules.{AreOperations, is_spelled}
 use Rattle.k_types.specs.State.{State, opening}
 use Rattle.k_types.specs.Effects.{step}
 use Rattle.k_types.specs.Steps.{IsLegalHistory, IsRun, done_by, state_after}
-use Rattle.k_base.proofs.Numbered.{occurrences, occurrences_count}
-use Rattle.k_base.proofs.Sums.{one_counts, sum_both, sum_same, zeros, same_below, less_below}
+use Rattle.k_kept.proofs.Numbered.{occurrences, occurrences_count}
+use Rattle.k_kept.proofs.Sums.{one_counts, sum_both, sum_same, zeros, same_below, less_below}
 use Rattle.k_bounds.specs.Counts.{allocation_count, has_allocated_in, is_operation, one_if, operation_count}
 use Rattle.k_bounds.proofs.ByProcess.{operations_by_process}
 use Rattle.k_bounds.proofs.Counting.{one_if_low}

@@ -22,11 +22,11 @@ use Rattle.k_types.specs.Replies.{faults, field_at, first_fault, number_in}
 use Rattle.k_types.specs.Updates.{add_share, clear_registers, close, close_scan, count_done, create, end_process, keep_exits, keep_objects, keep_shares, next_name, object_after_write, open_scan, set_phase, set_register, turn_exits, with_object, write, set_max}
 use Rattle.k_types.specs.Effects.{after_absorbed, after_closing, after_end_of, after_ended, after_operation, after_put, after_store, effect, effect_unless, step, survives, with_exit_of_store}
 use Rattle.k_types.specs.Steps.{IsLegalHistory, run, state_after}
-use Rattle.k_base.proofs.Lists.{get_or-set_cases, found_holds}
-use Rattle.k_frame.proofs.Rest.{freeze_rest, kill_rest}
+use Rattle.k_kept.proofs.Lists.{get_or-set_cases, found_holds}
+use Rattle.k_kept.proofs.Rest.{freeze_rest, kill_rest}
 use Rattle.k_known.specs.Fits.{DoesOperationsOf, IsSpelledEvent, NumbersFit}
 use Rattle.k_known.proofs.Counted.{operations_bounded, serials_bounded, spelled_history}
-use Rattle.k_frame.proofs.Effects.{linked_objects}
+use Rattle.k_kept.proofs.Effects.{linked_objects}
 
 -- each number among the fields has 64 bits
 abbrev AreSmall : List Content → Type 0

@@ -24,18 +24,18 @@ use Rattle.k_types.specs.Updates.{add_share, clear_registers, close, close_scan,
 use Rattle.k_types.specs.Effects.{after_absorbed, after_closing, after_end_of, after_ended, after_freeze, after_operation, after_put, after_store, effect, effect_unless, step, survives, after_kill}
 use Rattle.k_types.specs.Steps.{IsLegalHistory, IsPossible, in_range, state_after}
 use Rattle.k_types.specs.Sound.{IsOrdered, IsOrderedFrom, IsSized, IsTyped, kinds_by}
-use Rattle.k_base.proofs.NameTests.{name_eq-true, name_eq_refl, name_lt_irrefl, name_lt_trans}
-use Rattle.k_base.proofs.Objects.{has_found, length-placed}
-use Rattle.k_frame.proofs.Histories.{history_induction, state_next}
-use Rattle.k_frame.proofs.Rest.{freeze_rest, put_rest, store_rest, kill_rest}
-use Rattle.k_frame.proofs.Sizes.{history_sized}
+use Rattle.k_kept.proofs.NameTests.{name_eq-true, name_eq_refl, name_lt_irrefl, name_lt_trans}
+use Rattle.k_kept.proofs.Objects.{has_found, length-placed}
+use Rattle.k_kept.proofs.Histories.{history_induction, state_next}
+use Rattle.k_kept.proofs.Rest.{freeze_rest, put_rest, store_rest, kill_rest}
+use Rattle.k_kept.proofs.Sizes.{history_sized}
 use Rattle.k_bounds.proofs.SoundSteps.{legal_sound}
 use Rattle.k_known.specs.Fits.{AreAtMostTheSerials, FitsItsType, HasFewFields, serials_given}
-use Rattle.k_base.proofs.Sums.{total_set}
-use Rattle.k_base.proofs.Ordered.{ordered_tail}
+use Rattle.k_kept.proofs.Sums.{total_set}
+use Rattle.k_kept.proofs.Ordered.{ordered_tail}
 use Rattle.std.proofs.lemmas.List.{length-map}
-use Rattle.k_base.proofs.Lists.{length-kept}
-use Rattle.k_frame.proofs.Effects.{stored_length, put_length}
+use Rattle.k_kept.proofs.Lists.{length-kept}
+use Rattle.k_kept.proofs.Effects.{stored_length, put_length}
 
 -- the object has few fields
 few_by : (trace : Trace) → HasFewFields trace → (ty : Option TypeId) → length (kinds_by trace ty) ≤ most_fields

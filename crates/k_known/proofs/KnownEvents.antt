@@ -9,7 +9,7 @@ use Rattle.k_types.specs.Effects.{step}
 use Rattle.k_types.specs.Known.{IsKnownEvent, IsKnownReply}
 use Rattle.k_types.specs.Steps.{IsLegalHistory, IsPossible, IsRun}
 use Rattle.k_types.specs.Sound.{IsSound}
-use Rattle.k_base.proofs.Objects.{some_is}
+use Rattle.k_kept.proofs.Objects.{some_is}
 use Rattle.k_bounds.proofs.SoundOpening.{opening_sound}
 use Rattle.k_bounds.proofs.SoundSteps.{step_sound}
 use Rattle.k_known.specs.Fits.{AreKnownEvents}

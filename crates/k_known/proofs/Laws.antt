@@ -18,7 +18,7 @@ use Rattle.k_known.proofs.Fields.{history_fits}
 use Rattle.k_known.proofs.Fitting.{object_fits, objects_bounded}
 use Rattle.k_known.proofs.KnownEvents.{history_known}
 use Rattle.k_known.specs.Fits.{AreAtMostTheSerials, AreEndNumbers, FitsItsType, HasFewFields, AreKnownEvents, DoesOperationsOf, NumbersFit}
-use Rattle.k_frame.proofs.Tails.{tail_length}
+use Rattle.k_kept.proofs.Tails.{tail_length}
 use Rattle.std.specs.List.{AllByRecursion}
 use Rattle.k_types.specs.Bounds.{maximum_below}
 use Rattle.k_known.proofs.Maxima.{maxima_small}

@@ -16,7 +16,7 @@ use Rattle.k_types.specs.Updates.{count_done, set_max}
 use Rattle.k_types.specs.Replies.{first_fault, faults}
 use Rattle.k_types.specs.Effects.{step, effect, effect_unless, after_operation}
 use Rattle.k_types.specs.Steps.{IsLegalHistory, IsPossible, IsRun, in_range, run, state_after}
-use Rattle.k_frame.proofs.Constant.{effect_maxima, step_maxima}
+use Rattle.k_kept.proofs.Constant.{effect_maxima, step_maxima}
 use Rattle.std.proofs.lemmas.Bool.{and_parts, false≢true}
 
 -- each maximum is below 2^40

@@ -26,12 +26,12 @@ use Rattle.k_types.specs.Replies.{access_faults, answer, at_base, fault_where, f
 use Rattle.k_types.specs.Steps.{in_range}
 use Rattle.k_types.specs.Sound.{IsSound}
 use Rattle.k_types.specs.Known.{IsKnownFault, IsKnownName, IsKnownReply}
-use Rattle.k_base.proofs.Maxima.{length_in, tree_in}
-use Rattle.k_base.proofs.NameTests.{name_eq_refl}
+use Rattle.k_kept.proofs.Maxima.{length_in, tree_in}
+use Rattle.k_kept.proofs.NameTests.{name_eq_refl}
 use Rattle.k_bounds.proofs.SoundStore.{register_holds}
-use Rattle.k_base.proofs.Lists.{if_some, found_holds}
-use Rattle.k_base.proofs.Objects.{refers_found}
-use Rattle.k_base.proofs.Owners.{owner_known}
+use Rattle.k_kept.proofs.Lists.{if_some, found_holds}
+use Rattle.k_kept.proofs.Objects.{refers_found}
+use Rattle.k_kept.proofs.Owners.{owner_known}
 
 -- the limits on a path are the trace's
 all_above : (n : ℕ) (path : ℕ → List ℕ) (hard : Bool) (parent : Option LimitId) → ((q : LimitId) → parent ≡ Some q → AllByRecursion (λ k. k < n) (path q.0)) →

@@ -18,9 +18,9 @@ use Rattle.k_types.specs.Steps.{IsLegalHistory, IsPossible, state_after}
 use Rattle.k_types.specs.Trace.{Trace}
 use Rattle.k_types.specs.TraceRules.{AreLimits}
 use Rattle.k_types.specs.Updates.{count_done}
-use Rattle.k_frame.proofs.Histories.{legal_append, state_next}
-use Rattle.k_frame.proofs.Laws.{steps_leave_other_cells-part}
-use Rattle.k_laws.proofs.Laws.{collections_free_nothing_live, no_hidden_refusals-in_kernel, no_hidden_refusals-in_shared, no_hidden_refusals-new, no_hidden_refusals-store, states_are_sound}
+use Rattle.k_squares.proofs.Histories.{legal_append, state_next}
+use Rattle.k_squares.proofs.FrameLaws.{steps_leave_other_cells-part}
+use Rattle.k_squares.proofs.LawsLaws.{collections_free_nothing_live, no_hidden_refusals-in_kernel, no_hidden_refusals-in_shared, no_hidden_refusals-new, no_hidden_refusals-store, states_are_sound}
 use Rattle.k_squares.proofs.LocalityLaws.{possible_events_go_by_the_parts-histories}
 use Rattle.k_squares.specs.Same.{SameToEvent}
 use Rattle.k_squares.proofs.Laws.{steps_go_by_the_parts-book, steps_go_by_the_parts-cells}

@@ -15,7 +15,7 @@ use Rattle.k_types.specs.Trace.{Trace, process_count}
 use Rattle.k_base.proofs.Lists.{below_any, get_or_inside}
 use Rattle.k_base.proofs.NameTests.{name_eq-true, name_eq_refl}
 use Rattle.k_base.proofs.Objects.{referrer, refers_in_has}
-use Rattle.k_laws.proofs.Closure.{closed_refers, in_set, set, set_has, set_refers, start_in}
+use Rattle.k_squares.proofs.Closure.{closed_refers, in_set, set, set_has, set_refers, start_in}
 use Rattle.k_lawful.specs.Live.{HoldsWhatIsLive, IsLeastLive}
 
 -- what follows from each number that passes follows where some number passes

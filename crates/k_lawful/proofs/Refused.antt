@@ -11,7 +11,7 @@ use Rattle.k_types.specs.Replies.{answer, faults, first_fault, refused_or, reply
 use Rattle.k_types.specs.State.{State}
 use Rattle.k_types.specs.Trace.{Trace}
 use Rattle.k_types.specs.Updates.{count_done}
-use Rattle.k_frame.proofs.Answers.{no_refusal}
+use Rattle.k_squares.proofs.Answers.{no_refusal}
 
 -- where there is a fault the effect is left out
 left_out : (trace : Trace) (st : State) (p : ℕ) (op : Op) (fault : Fault) (first : Option Fault) (reply : Reply) → (reply ≡ Refused fault → ⊥) →

@@ -25,7 +25,7 @@ use Rattle.k_types.specs.State.{State, has}
 use Rattle.k_types.specs.Steps.{IsLegalHistory, IsPossible, state_after}
 use Rattle.k_types.specs.Trace.{Trace, limit_of, size_of_type}
 use Rattle.k_types.specs.Updates.{count_done}
-use Rattle.k_laws.specs.Refusals.{is_fault_of_store}
+use Rattle.k_squares.specs.k_laws.Refusals.{is_fault_of_store}
 use Rattle.k_squares.specs.Same.{SameToEvent}
 use Rattle.k_squares.specs.Follows.{LeavesSameBook, LeavesSameCells}
 

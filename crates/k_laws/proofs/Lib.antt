@@ -48,3 +48,18 @@ pub use Rattle.k_frame.proofs.Untouched
 pub use Rattle.k_frame.proofs.Effects
 pub use Rattle.k_frame.proofs.FrameSteps
 pub use Rattle.k_frame.proofs.Rest
+pub use Rattle.k_frame.proofs.Charges
+pub use Rattle.k_frame.proofs.Exits
+pub use Rattle.k_frame.proofs.Lists
+pub use Rattle.k_frame.proofs.Maxima
+pub use Rattle.k_frame.proofs.NameTests
+pub use Rattle.k_frame.proofs.Numbered
+pub use Rattle.k_frame.proofs.Objects
+pub use Rattle.k_frame.proofs.Ordered
+pub use Rattle.k_frame.proofs.Owners
+pub use Rattle.k_frame.proofs.Shares
+pub use Rattle.k_frame.proofs.Sums
+pub use Rattle.k_frame.proofs.Tests
+pub use Rattle.k_frame.proofs.Answers
+pub use Rattle.k_frame.proofs.Constant
+pub use Rattle.k_frame.proofs.Laws as FrameLaws

@@ -15,6 +15,7 @@ pub use charges::{
     resizes_move_the_reservation, uses_fit,
 };
 pub use collections::{collections_free_nothing_live, collections_keep_exactly_the_survivors};
+pub use k_frame::{CellPhase, Event, Link, Name, NoMemory, Op, Pid, Seg, Serial, TypeId};
 pub use meaning::{
     a_collection_reaches_within_its_heap, a_living_process_owns_its_segment_alone,
     entered_objects_are_counted,

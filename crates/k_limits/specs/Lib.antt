@@ -3,3 +3,4 @@ pub mod Rows
 pub mod Paths
 pub mod Laws
 pub mod Resizes
+pub use Rattle.k_base.specs.k_types

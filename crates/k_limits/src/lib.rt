@@ -14,6 +14,11 @@ mod paths;
 mod tree;
 
 pub use error::{MakeError, ResizeRefusal};
+pub use k_base::{
+    Field, LimitId, LimitRow, MAXIMUM_BELOW, MOST_LIMITS, MOST_LINE_BYTES, MOST_OPERATIONS,
+    MOST_PROCESSES, MOST_SHARED_HEAPS, MOST_TRACE_BYTES, MOST_TYPES, MOST_WORDS, Op, Pid, Reg,
+    Setup, SharedId, TypeId, TypeTable,
+};
 pub use laws::{
     rows_that_fit_are_not_refused, uses_are_the_machines, uses_are_those_of_the_books_part,
 };

@@ -24,7 +24,7 @@ use Rattle.k_frame.proofs.Laws.{local_operations_go_by_their_cell-book}
 use Rattle.k_frame.specs.PartUpdates.{held_in, with_done, with_register, with_written}
 use Rattle.k_changes.specs.BookChanges.{owner_in}
 use Rattle.k_changes.specs.CellChanges.{with_exit_to}
-use Rattle.k_agree.specs.Marking.{idle_part}
+use Rattle.k_heap.specs.k_agree.Marking.{idle_part}
 use Rattle.k_squares.specs.Answers.{access_faults_in, answer_in, faults_in, field_in, load_faults_in, number_faults_in, number_from_in, passes_barrier_in, reference_from_in, reply_in, store_faults_in}
 use Rattle.k_squares.specs.CellAfter.{at_cell, cell_after, cells_operated, cells_put, cells_stored, cells_with_register, reference_given, register_in, unless_refused, with_exit_for}
 use Rattle.k_squares.proofs.Laws.{local_operations_are_told}

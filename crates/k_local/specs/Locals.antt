@@ -19,8 +19,8 @@ use Rattle.k_types.specs.State.{Content, Holds, Refers, State}
 use Rattle.k_types.specs.Trace.{Trace, process_count}
 use Rattle.k_frame.specs.PartUpdates.{held_in}
 use Rattle.k_changes.specs.BookChanges.{owner_in}
-use Rattle.k_agree.specs.GivingAway.{with_one_done}
-use Rattle.k_agree.specs.Marking.{idle_part}
+use Rattle.k_heap.specs.k_agree.GivingAway.{with_one_done}
+use Rattle.k_heap.specs.k_agree.Marking.{idle_part}
 use Rattle.k_squares.specs.Answers.{reply_in}
 use Rattle.k_squares.specs.CellAfter.{cell_after, unless_refused}
 use Rattle.k_heap.specs.Changes.{with_field}

@@ -10,7 +10,7 @@ ghost use Rattle.k_types.specs.declared.event.Reply.TheVariants.{Done, Loaded};
 ghost use Rattle.k_types.specs.declared.names.Name.{Name as Named};
 ghost use Rattle.k_frame.specs.PartUpdates.{done_in, held_in};
 ghost use Rattle.k_types.specs.Trace.{Trace};
-ghost use Rattle.k_agree.specs.Marking.{idle_part};
+ghost use Rattle.k_heap.specs.k_agree.Marking.{idle_part};
 ghost use Rattle.k_squares.specs.CellAfter.{unless_refused};
 ghost use Rattle.k_squares.specs.Locals.{is_local_in};
 ghost use Rattle.k_space.specs.Objects.{content_of};

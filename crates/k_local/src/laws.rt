@@ -6,7 +6,7 @@ ghost use Rattle.k_types.specs.declared.op.Op.{Op};
 ghost use Rattle.k_types.specs.Agree.{CellValue};
 ghost use Rattle.k_types.specs.Cells.{BookPart, Cell, CellPart};
 ghost use Rattle.k_types.specs.Trace.{Trace};
-ghost use Rattle.k_agree.specs.Marking.{idle_part};
+ghost use Rattle.k_heap.specs.k_agree.Marking.{idle_part};
 ghost use Rattle.k_squares.specs.Locals.{is_local_in};
 ghost use Rattle.k_local.specs.Locals.{IsMachines, ShowOwn, after_local, local_answer};
 

@@ -1,20 +1,20 @@
 -- The laws of this crate, one lemma a clause under the law's name, for the crates above to cite.
 use Rattle.std.specs.Prelude.{List, ℕ, IsFalse, IsTrue, ◌<◌, ◌≡◌}
-use Rattle.k_types.specs.Cells.{cells_touched}
-use Rattle.k_types.specs.Names.{among}
-use Rattle.k_types.specs.Replies.{reply_to}
-use Rattle.k_types.specs.Sound.{IsSound}
-use Rattle.k_types.specs.State.{State, opening}
-use Rattle.k_types.specs.Steps.{IsLegalHistory, IsPossible, state_after, in_range}
-use Rattle.k_types.specs.Trace.{Trace, process_count}
-use Rattle.k_types.specs.TraceRules.{AreLimits}
-use Rattle.k_types.specs.declared.event.Event.{Event}
-use Rattle.k_types.specs.declared.event.Event.TheVariants.{Absorbed, Closing, Done, Ended}
-use Rattle.k_types.specs.declared.event.Reply.{Reply}
-use Rattle.k_types.specs.declared.names.Heap.{Heap}
-use Rattle.k_types.specs.declared.names.Pid.{Pid}
-use Rattle.k_types.specs.declared.names.SharedId.{SharedId}
-use Rattle.k_types.specs.declared.op.Op.{Op}
+use Rattle.k_changes.specs.k_types.Cells.{cells_touched}
+use Rattle.k_changes.specs.k_types.Names.{among}
+use Rattle.k_changes.specs.k_types.Replies.{reply_to}
+use Rattle.k_changes.specs.k_types.Sound.{IsSound}
+use Rattle.k_changes.specs.k_types.State.{State, opening}
+use Rattle.k_changes.specs.k_types.Steps.{IsLegalHistory, IsPossible, state_after, in_range}
+use Rattle.k_changes.specs.k_types.Trace.{Trace, process_count}
+use Rattle.k_changes.specs.k_types.TraceRules.{AreLimits}
+use Rattle.k_changes.specs.k_types.declared.event.Event.{Event}
+use Rattle.k_changes.specs.k_types.declared.event.Event.TheVariants.{Absorbed, Closing, Done, Ended}
+use Rattle.k_changes.specs.k_types.declared.event.Reply.{Reply}
+use Rattle.k_changes.specs.k_types.declared.names.Heap.{Heap}
+use Rattle.k_changes.specs.k_types.declared.names.Pid.{Pid}
+use Rattle.k_changes.specs.k_types.declared.names.SharedId.{SharedId}
+use Rattle.k_changes.specs.k_types.declared.op.Op.{Op}
 use Rattle.k_changes.proofs.SoundOpening.{opening_sound}
 use Rattle.k_changes.proofs.SoundSteps.{run_sound}
 use Rattle.k_locality.proofs.SameEnds.{end_possible, event_possible}

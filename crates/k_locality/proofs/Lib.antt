@@ -42,3 +42,16 @@ pub use Rattle.k_changes.proofs.Tails
 pub use Rattle.k_changes.proofs.Untouched
 pub use Rattle.k_changes.proofs.SharedSums
 pub use Rattle.k_changes.proofs.WaysInto
+pub use Rattle.k_bounds.proofs.Exits
+pub use Rattle.k_changes.proofs.Lists
+pub use Rattle.k_changes.proofs.NameTests
+pub use Rattle.k_changes.proofs.Objects
+pub use Rattle.k_changes.proofs.Shares
+pub use Rattle.k_changes.proofs.Sums
+pub use Rattle.k_changes.proofs.Laws as ChangesLaws
+pub use Rattle.k_changes.proofs.Answers
+pub use Rattle.k_changes.proofs.FrameSteps
+pub use Rattle.k_bounds.proofs.FrameLaws
+pub use Rattle.k_bounds.proofs.Closure
+pub use Rattle.k_bounds.proofs.LawsLaws
+pub use Rattle.k_bounds.proofs.SoundStore

@@ -2,21 +2,21 @@
 use Rattle.std.proofs.Common.{◌≡◌, ℕ, ◌==◌, ◌&&◌, ◌||◌, not, true, false, cond, refl, sym, ap, ap₂, ◌∙◌, List, [], ◌∷◌, map, filter, length, count_by, Option, Some, None, is_some, IsTrue}
 use Rattle.std.specs.List.{list_any}
 use Rattle.std.proofs.lemmas.Bool.{false≢true}
-use Rattle.k_types.specs.declared.names.Name.{Name}
-use Rattle.k_types.specs.declared.names.Heap.{Heap}
-use Rattle.k_types.specs.declared.names.Heap.TheVariants.{Kernel, User, Shared}
-use Rattle.k_types.specs.declared.event.Event.{Event}
-use Rattle.k_types.specs.declared.event.Event.TheVariants.{Done, Ended, Absorbed, Closing}
-use Rattle.k_types.specs.Names.{name_eq, heap_eq, name_among}
-use Rattle.k_types.specs.Totals.{total}
-use Rattle.k_types.specs.Numbers.{numbers_below}
-use Rattle.k_types.specs.Trace.{Trace}
-use Rattle.k_types.specs.State.{State, Object, ExitItem, Sharing, has, refers, has_exit, scan_of, is_scanned}
-use Rattle.k_types.specs.Owners.{owner_of, object_bytes, user}
-use Rattle.k_types.specs.Effects.{survives, exit_stays, share_stays, open_roots}
-use Rattle.k_types.specs.Steps.{IsPossible}
-use Rattle.k_types.specs.Sound.{IsSound, AreDistinctExits}
-use Rattle.k_types.specs.Cells.{BookPart, CellPart, part, book_part, cells_touched}
+use Rattle.k_changes.specs.k_types.declared.names.Name.{Name}
+use Rattle.k_changes.specs.k_types.declared.names.Heap.{Heap}
+use Rattle.k_changes.specs.k_types.declared.names.Heap.TheVariants.{Kernel, User, Shared}
+use Rattle.k_changes.specs.k_types.declared.event.Event.{Event}
+use Rattle.k_changes.specs.k_types.declared.event.Event.TheVariants.{Done, Ended, Absorbed, Closing}
+use Rattle.k_changes.specs.k_types.Names.{name_eq, heap_eq, name_among}
+use Rattle.k_changes.specs.k_types.Totals.{total}
+use Rattle.k_changes.specs.k_types.Numbers.{numbers_below}
+use Rattle.k_changes.specs.k_types.Trace.{Trace}
+use Rattle.k_changes.specs.k_types.State.{State, Object, ExitItem, Sharing, has, refers, has_exit, scan_of, is_scanned}
+use Rattle.k_changes.specs.k_types.Owners.{owner_of, object_bytes, user}
+use Rattle.k_changes.specs.k_types.Effects.{survives, exit_stays, share_stays, open_roots}
+use Rattle.k_changes.specs.k_types.Steps.{IsPossible}
+use Rattle.k_changes.specs.k_types.Sound.{IsSound, AreDistinctExits}
+use Rattle.k_changes.specs.k_types.Cells.{BookPart, CellPart, part, book_part, cells_touched}
 use Rattle.k_bounds.specs.Distinct.{AreDistinctNames}
 use Rattle.k_bounds.proofs.Distinct.{targets_sum}
 use Rattle.k_changes.specs.CellChanges.{reached_in}
@@ -28,7 +28,7 @@ use Rattle.k_changes.proofs.Sums.{bit, sum_same, sum-filter, zeros, count_is_tot
 use Rattle.k_changes.proofs.Means.{reach_is}
 use Rattle.k_locality.specs.Same.{SameToEvent}
 use Rattle.k_locality.proofs.SameRead.{owners_same}
-use Rattle.k_types.specs.TraceRules.{AreLimits}
+use Rattle.k_changes.specs.k_types.TraceRules.{AreLimits}
 use Rattle.k_locality.proofs.SamePossible.{scan_same, scanned_same, done_possible, absorbed_possible, closing_possible}
 use Rattle.k_changes.proofs.Lists.{both_kept}
 use Rattle.k_changes.proofs.Tests.{not_or}

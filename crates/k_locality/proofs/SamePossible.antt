@@ -3,22 +3,22 @@ use Rattle.std.proofs.Common.{◌≡◌, ℕ, ◌&&◌, ◌||◌, not, refl, sym
 use Rattle.std.specs.List.{list_any, list_all}
 use Rattle.std.proofs.Math.Path.{fun_ext}
 use Rattle.std.proofs.lemmas.Bool.{or_left, or_right}
-use Rattle.k_types.specs.declared.names.Pid.{Pid}
-use Rattle.k_types.specs.declared.names.SharedId.{SharedId}
-use Rattle.k_types.specs.declared.names.Heap.{Heap}
-use Rattle.k_types.specs.declared.names.Heap.TheVariants.{Kernel}
-use Rattle.k_types.specs.declared.names.Phase.{Phase}
-use Rattle.k_types.specs.declared.op.Op.{Op}
-use Rattle.k_types.specs.declared.event.Reply.{Reply}
-use Rattle.k_types.specs.declared.event.Event.TheVariants.{Done, Absorbed, Closing}
-use Rattle.k_types.specs.Names.{heap_eq, among}
-use Rattle.k_types.specs.Numbers.{numbers_below}
-use Rattle.k_types.specs.Trace.{Trace, process_count}
-use Rattle.k_types.specs.TraceRules.{AreLimits}
-use Rattle.k_types.specs.State.{State, scan_of, is_scanned}
-use Rattle.k_types.specs.Owners.{phase_of}
-use Rattle.k_types.specs.Steps.{IsPossible, is_live, is_orphan, no_orphan, waits_for_orphans}
-use Rattle.k_types.specs.Cells.{CellPart, part, book_part, cells_touched}
+use Rattle.k_changes.specs.k_types.declared.names.Pid.{Pid}
+use Rattle.k_changes.specs.k_types.declared.names.SharedId.{SharedId}
+use Rattle.k_changes.specs.k_types.declared.names.Heap.{Heap}
+use Rattle.k_changes.specs.k_types.declared.names.Heap.TheVariants.{Kernel}
+use Rattle.k_changes.specs.k_types.declared.names.Phase.{Phase}
+use Rattle.k_changes.specs.k_types.declared.op.Op.{Op}
+use Rattle.k_changes.specs.k_types.declared.event.Reply.{Reply}
+use Rattle.k_changes.specs.k_types.declared.event.Event.TheVariants.{Done, Absorbed, Closing}
+use Rattle.k_changes.specs.k_types.Names.{heap_eq, among}
+use Rattle.k_changes.specs.k_types.Numbers.{numbers_below}
+use Rattle.k_changes.specs.k_types.Trace.{Trace, process_count}
+use Rattle.k_changes.specs.k_types.TraceRules.{AreLimits}
+use Rattle.k_changes.specs.k_types.State.{State, scan_of, is_scanned}
+use Rattle.k_changes.specs.k_types.Owners.{phase_of}
+use Rattle.k_changes.specs.k_types.Steps.{IsPossible, is_live, is_orphan, no_orphan, waits_for_orphans}
+use Rattle.k_changes.specs.k_types.Cells.{CellPart, part, book_part, cells_touched}
 use Rattle.k_locality.specs.Same.{SameToEvent}
 use Rattle.k_locality.proofs.SameRead.{shares_same, closed_same}
 use Rattle.k_locality.proofs.SameReplies.{touched_same, done_reply_same}

@@ -1,20 +1,20 @@
 -- What is read is the same in two states where the parts are.
 use Rattle.std.proofs.Common.{◌≡◌, ℕ, ◌<◌, cond, not, refl, sym, ap, ◌∙◌, [], ◌∷◌, length, Option, Some, None, get_or, ◌&&◌}
-use Rattle.k_types.specs.declared.names.Name.{Name}
-use Rattle.k_types.specs.declared.names.Heap.{Heap}
-use Rattle.k_types.specs.declared.names.Heap.TheVariants.{Kernel, User, Shared}
-use Rattle.k_types.specs.declared.op.Op.{Op}
-use Rattle.k_types.specs.declared.op.Op.TheVariants.{Store, Load, Put, Get, Kill}
-use Rattle.k_types.specs.declared.event.Fault.TheVariants.{NotSharer}
-use Rattle.k_types.specs.Trace.{Trace}
-use Rattle.k_types.specs.TraceRules.{AreLimits}
-use Rattle.k_types.specs.State.{State, object_at, register, has_share}
-use Rattle.k_types.specs.Owners.{owner_of, user, shared, bytes_of, phase_of}
-use Rattle.k_types.specs.Limits.{full_limit, full_for, use_of, is_above}
-use Rattle.k_types.specs.Updates.{next_name}
-use Rattle.k_types.specs.Replies.{fault_where, sharer_fault, is_frozen_heap, is_frozen}
+use Rattle.k_changes.specs.k_types.declared.names.Name.{Name}
+use Rattle.k_changes.specs.k_types.declared.names.Heap.{Heap}
+use Rattle.k_changes.specs.k_types.declared.names.Heap.TheVariants.{Kernel, User, Shared}
+use Rattle.k_changes.specs.k_types.declared.op.Op.{Op}
+use Rattle.k_changes.specs.k_types.declared.op.Op.TheVariants.{Store, Load, Put, Get, Kill}
+use Rattle.k_changes.specs.k_types.declared.event.Fault.TheVariants.{NotSharer}
+use Rattle.k_changes.specs.k_types.Trace.{Trace}
+use Rattle.k_changes.specs.k_types.TraceRules.{AreLimits}
+use Rattle.k_changes.specs.k_types.State.{State, object_at, register, has_share}
+use Rattle.k_changes.specs.k_types.Owners.{owner_of, user, shared, bytes_of, phase_of}
+use Rattle.k_changes.specs.k_types.Limits.{full_limit, full_for, use_of, is_above}
+use Rattle.k_changes.specs.k_types.Updates.{next_name}
+use Rattle.k_changes.specs.k_types.Replies.{fault_where, sharer_fault, is_frozen_heap, is_frozen}
 use Rattle.k_changes.specs.PartUpdates.{held_in}
-use Rattle.k_types.specs.Cells.{BookPart, CellPart, part, book_part, base_cell, access_cell, other_cells, use_shown}
+use Rattle.k_changes.specs.k_types.Cells.{BookPart, CellPart, part, book_part, base_cell, access_cell, other_cells, use_shown}
 use Rattle.k_changes.specs.CellChanges.{next_name_in}
 use Rattle.k_changes.specs.BookChanges.{owner_in, bytes_in}
 use Rattle.k_changes.specs.Told.{full_limit_in, full_for_in}

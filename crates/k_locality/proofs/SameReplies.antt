@@ -2,31 +2,31 @@
 use Rattle.std.proofs.Common.{◌≡◌, ℕ, ◌+◌, ◌<◌, ◌==◌, ◌⊎◌, nat_lt, nat_le, not, true, false, cond, refl, sym, ap, ap₂, ◌∙◌, inl, inr, List, [], ◌∷◌, ◌++◌, length, Option, Some, None, IsTrue, IsFalse, eqb-true, ltb-true, get_or, ◌&&◌}
 use Rattle.std.specs.List.{list_any}
 use Rattle.std.proofs.lemmas.Bool.{cases_Bool, or_left, or_right, and_parts, false≢true}
-use Rattle.k_types.specs.declared.names.Name.{Name}
-use Rattle.k_types.specs.declared.names.Pid.{Pid}
-use Rattle.k_types.specs.declared.names.Heap.{Heap}
-use Rattle.k_types.specs.declared.names.Heap.TheVariants.{Kernel, User, Shared}
-use Rattle.k_types.specs.declared.names.Phase.{Phase}
-use Rattle.k_types.specs.declared.names.Phase.TheVariants.{Unmade, Populating, Frozen as FrozenPhase, Absorbed}
-use Rattle.k_types.specs.declared.op.Op.{Op}
-use Rattle.k_types.specs.declared.op.Op.TheVariants.{New, KNew, SNew, Store, Load, Put, Get, Share, Freeze, Attach, Resize}
-use Rattle.k_types.specs.declared.event.Fault.{Fault}
-use Rattle.k_types.specs.declared.event.Fault.TheVariants.{Foreign, NotSharer, NoField, WrongKind, Frozen, Segv, NotPopulating, NotFrozen, Taken, KernelFull, LimitNotBelow, InUse}
-use Rattle.k_types.specs.declared.event.Reply.{Reply}
-use Rattle.k_types.specs.declared.event.Reply.TheVariants.{Done, Made, Loaded, Value}
-use Rattle.k_types.specs.declared.event.Event.{Event}
-use Rattle.k_types.specs.declared.event.Event.TheVariants.{Done as DoneEvent, Ended, Absorbed as AbsorbedEvent, Closing}
-use Rattle.k_types.specs.Barrier.{legal_store}
-use Rattle.k_types.specs.Updates.{next_name}
-use Rattle.k_types.specs.Names.{heap_eq, kind_of, among}
-use Rattle.k_types.specs.Bounds.{maximum_below}
-use Rattle.k_types.specs.Trace.{Trace, process_count, limit_of, size_of_type, segment_of}
-use Rattle.k_types.specs.TraceRules.{AreLimits}
-use Rattle.k_types.specs.State.{State, object_at, fields_of, register, has_share, Holds}
-use Rattle.k_types.specs.Owners.{owner_of, user, bytes_of, phase_of, is_absorbed}
-use Rattle.k_types.specs.Steps.{in_range}
-use Rattle.k_types.specs.Replies.{fault_where, first_fault, faults, access_faults, sharer_fault, at_base, answer, reply_to, refused_or, field_at, field_count, is_ref, reference_from, reference, passes_barrier, is_foreign, is_frozen_heap, is_frozen, is_populating, is_unmade, root_of, load_faults, store_faults, number_faults, number_from, number_in, size_fault, limit_fault, may_resize}
-use Rattle.k_types.specs.Cells.{part, book_part, base_cell, access_cell, other_cells, cells_touched}
+use Rattle.k_changes.specs.k_types.declared.names.Name.{Name}
+use Rattle.k_changes.specs.k_types.declared.names.Pid.{Pid}
+use Rattle.k_changes.specs.k_types.declared.names.Heap.{Heap}
+use Rattle.k_changes.specs.k_types.declared.names.Heap.TheVariants.{Kernel, User, Shared}
+use Rattle.k_changes.specs.k_types.declared.names.Phase.{Phase}
+use Rattle.k_changes.specs.k_types.declared.names.Phase.TheVariants.{Unmade, Populating, Frozen as FrozenPhase, Absorbed}
+use Rattle.k_changes.specs.k_types.declared.op.Op.{Op}
+use Rattle.k_changes.specs.k_types.declared.op.Op.TheVariants.{New, KNew, SNew, Store, Load, Put, Get, Share, Freeze, Attach, Resize}
+use Rattle.k_changes.specs.k_types.declared.event.Fault.{Fault}
+use Rattle.k_changes.specs.k_types.declared.event.Fault.TheVariants.{Foreign, NotSharer, NoField, WrongKind, Frozen, Segv, NotPopulating, NotFrozen, Taken, KernelFull, LimitNotBelow, InUse}
+use Rattle.k_changes.specs.k_types.declared.event.Reply.{Reply}
+use Rattle.k_changes.specs.k_types.declared.event.Reply.TheVariants.{Done, Made, Loaded, Value}
+use Rattle.k_changes.specs.k_types.declared.event.Event.{Event}
+use Rattle.k_changes.specs.k_types.declared.event.Event.TheVariants.{Done as DoneEvent, Ended, Absorbed as AbsorbedEvent, Closing}
+use Rattle.k_changes.specs.k_types.Barrier.{legal_store}
+use Rattle.k_changes.specs.k_types.Updates.{next_name}
+use Rattle.k_changes.specs.k_types.Names.{heap_eq, kind_of, among}
+use Rattle.k_changes.specs.k_types.Bounds.{maximum_below}
+use Rattle.k_changes.specs.k_types.Trace.{Trace, process_count, limit_of, size_of_type, segment_of}
+use Rattle.k_changes.specs.k_types.TraceRules.{AreLimits}
+use Rattle.k_changes.specs.k_types.State.{State, object_at, fields_of, register, has_share, Holds}
+use Rattle.k_changes.specs.k_types.Owners.{owner_of, user, bytes_of, phase_of, is_absorbed}
+use Rattle.k_changes.specs.k_types.Steps.{in_range}
+use Rattle.k_changes.specs.k_types.Replies.{fault_where, first_fault, faults, access_faults, sharer_fault, at_base, answer, reply_to, refused_or, field_at, field_count, is_ref, reference_from, reference, passes_barrier, is_foreign, is_frozen_heap, is_frozen, is_populating, is_unmade, root_of, load_faults, store_faults, number_faults, number_from, number_in, size_fault, limit_fault, may_resize}
+use Rattle.k_changes.specs.k_types.Cells.{part, book_part, base_cell, access_cell, other_cells, cells_touched}
 use Rattle.k_locality.specs.Same.{SameToEvent}
 use Rattle.k_locality.proofs.SameRead.{owners_same, shares_same, limit_same, shared_bytes_same, sharer_same, frozen_same, object_same, name_same, bytes_same, register_same, others_same, full_for_same, use_same}
 use Rattle.k_changes.proofs.NameTests.{heap_eq_refl}

@@ -7,3 +7,7 @@ pub use Rattle.k_changes.specs.Told
 pub use Rattle.k_bounds.specs.Counts
 pub use Rattle.k_bounds.specs.Distinct
 pub use Rattle.k_changes.specs.PartUpdates
+pub use Rattle.k_changes.specs as k_changes
+pub use Rattle.k_changes.specs.k_frame
+pub use Rattle.k_bounds.specs.k_laws
+pub use Rattle.k_changes.specs.k_types

@@ -6,5 +6,6 @@
 mod possible;
 mod replies;
 
+pub use k_bounds::{Event, Op, Pid};
 pub use possible::possible_events_go_by_the_parts;
 pub use replies::{replies_go_by_the_parts, touched_cells_go_by_the_parts};

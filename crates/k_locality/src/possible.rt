@@ -1,18 +1,18 @@
 //! The same events are possible, and leave the same, in states with the same touched parts.
 ghost use Rattle.std.specs.Prelude.{List, ℕ};
 ghost use Rattle.k_locality.specs.Same.{SameToEvent};
-ghost use Rattle.k_types.specs.Sound.{IsSound};
-ghost use Rattle.k_types.specs.State.{State};
-ghost use Rattle.k_types.specs.Steps.{IsLegalHistory, IsPossible, state_after};
-ghost use Rattle.k_types.specs.Trace.{Trace};
-ghost use Rattle.k_types.specs.TraceRules.{AreLimits};
-ghost use Rattle.k_types.specs.declared.event.Event.{Event};
-ghost use Rattle.k_types.specs.declared.event.Event.TheVariants.{Absorbed, Closing, Done, Ended};
-ghost use Rattle.k_types.specs.declared.event.Reply.{Reply};
-ghost use Rattle.k_types.specs.declared.names.Heap.{Heap};
-ghost use Rattle.k_types.specs.declared.names.Pid.{Pid};
-ghost use Rattle.k_types.specs.declared.names.SharedId.{SharedId};
-ghost use Rattle.k_types.specs.declared.op.Op.{Op};
+ghost use Rattle.k_changes.specs.k_types.Sound.{IsSound};
+ghost use Rattle.k_changes.specs.k_types.State.{State};
+ghost use Rattle.k_changes.specs.k_types.Steps.{IsLegalHistory, IsPossible, state_after};
+ghost use Rattle.k_changes.specs.k_types.Trace.{Trace};
+ghost use Rattle.k_changes.specs.k_types.TraceRules.{AreLimits};
+ghost use Rattle.k_changes.specs.k_types.declared.event.Event.{Event};
+ghost use Rattle.k_changes.specs.k_types.declared.event.Event.TheVariants.{Absorbed, Closing, Done, Ended};
+ghost use Rattle.k_changes.specs.k_types.declared.event.Reply.{Reply};
+ghost use Rattle.k_changes.specs.k_types.declared.names.Heap.{Heap};
+ghost use Rattle.k_changes.specs.k_types.declared.names.Pid.{Pid};
+ghost use Rattle.k_changes.specs.k_types.declared.names.SharedId.{SharedId};
+ghost use Rattle.k_changes.specs.k_types.declared.op.Op.{Op};
 
 /// Whether an event is possible is told by the parts of the cells that it touches and of the book: for an operation with its
 /// reply, for an absorption and for the closing in all states, and for the end of a collection with its numbers in sound ones.

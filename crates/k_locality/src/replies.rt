@@ -1,18 +1,18 @@
 //! Operations touch the same cells and get the same replies in states with the same touched parts.
 ghost use Rattle.std.specs.Prelude.{IsFalse, IsTrue, ◌<◌, ◌≡◌};
 ghost use Rattle.k_locality.specs.Same.{SameToEvent};
-ghost use Rattle.k_types.specs.Cells.{cells_touched};
-ghost use Rattle.k_types.specs.Names.{among};
-ghost use Rattle.k_types.specs.Replies.{reply_to};
-ghost use Rattle.k_types.specs.State.{State};
-ghost use Rattle.k_types.specs.Steps.{in_range};
-ghost use Rattle.k_types.specs.Trace.{Trace, process_count};
-ghost use Rattle.k_types.specs.TraceRules.{AreLimits};
-ghost use Rattle.k_types.specs.declared.event.Event.{Event};
-ghost use Rattle.k_types.specs.declared.event.Event.TheVariants.{Done};
-ghost use Rattle.k_types.specs.declared.event.Reply.{Reply};
-ghost use Rattle.k_types.specs.declared.names.Pid.{Pid};
-ghost use Rattle.k_types.specs.declared.op.Op.{Op};
+ghost use Rattle.k_changes.specs.k_types.Cells.{cells_touched};
+ghost use Rattle.k_changes.specs.k_types.Names.{among};
+ghost use Rattle.k_changes.specs.k_types.Replies.{reply_to};
+ghost use Rattle.k_changes.specs.k_types.State.{State};
+ghost use Rattle.k_changes.specs.k_types.Steps.{in_range};
+ghost use Rattle.k_changes.specs.k_types.Trace.{Trace, process_count};
+ghost use Rattle.k_changes.specs.k_types.TraceRules.{AreLimits};
+ghost use Rattle.k_changes.specs.k_types.declared.event.Event.{Event};
+ghost use Rattle.k_changes.specs.k_types.declared.event.Event.TheVariants.{Done};
+ghost use Rattle.k_changes.specs.k_types.declared.event.Reply.{Reply};
+ghost use Rattle.k_changes.specs.k_types.declared.names.Pid.{Pid};
+ghost use Rattle.k_changes.specs.k_types.declared.op.Op.{Op};
 
 /// Which cells an event touches is told by the parts of these cells and of the book, so that it is the same in both states, and
 /// the second finds the same as the first.

@@ -28,12 +28,12 @@ use Rattle.k_bounds.proofs.Dones.{done_count}
 use Rattle.k_frame.specs.PartUpdates.{done_in}
 use Rattle.k_frame.proofs.OwnerOf.{owner_kernel, owner_stands, owner_user}
 use Rattle.k_tie.specs.Values.{NoteValue}
-use Rattle.k_agree.specs.Agreement.{Agrees, Shows}
-use Rattle.k_agree.specs.Meeting.{Fits, ShowsTheJournal}
-use Rattle.k_agree.specs.Rooms.{IsNext, exit_room, serial_room}
-use Rattle.k_agree.proofs.AtTheEnd.{book_sound}
-use Rattle.k_agree.proofs.Meetings.{meeting}
-use Rattle.k_agree.proofs.WithinRooms.{next_by_done}
+use Rattle.k_commit.specs.k_agree.Agreement.{Agrees, Shows}
+use Rattle.k_commit.specs.k_agree.Meeting.{Fits, ShowsTheJournal}
+use Rattle.k_commit.specs.k_agree.Rooms.{IsNext, exit_room, serial_room}
+use Rattle.k_commit.proofs.AtTheEnd.{book_sound}
+use Rattle.k_commit.proofs.AgreeMeetings.{meeting}
+use Rattle.k_commit.proofs.WithinRooms.{next_by_done}
 use Rattle.k_entry.specs.Entries.{AreEntries, objects}
 use Rattle.k_entry.proofs.WholeWalks.{all_distinct, few_items}
 use Rattle.k_space.specs.Objects.{BodyValue}

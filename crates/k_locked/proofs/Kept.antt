@@ -19,9 +19,9 @@ use Rattle.k_frame.specs.PartUpdates.{done_in}
 use Rattle.k_frame.proofs.Histories.{done_append}
 use Rattle.k_frame.proofs.OwnerOf.{owner_shared, segment_of_shared}
 use Rattle.k_kept.proofs.Owning.{stays_kernel}
-use Rattle.k_agree.specs.Rooms.{IsNext, event_room, exit_room}
-use Rattle.k_agree.proofs.AtTheEnd.{maxima_counted}
-use Rattle.k_agree.proofs.WithinRooms.{follows_after}
+use Rattle.k_commit.specs.k_agree.Rooms.{IsNext, event_room, exit_room}
+use Rattle.k_commit.proofs.AtTheEnd.{maxima_counted}
+use Rattle.k_commit.proofs.WithinRooms.{follows_after}
 use Rattle.k_bodies.specs.Bodies.{bodies_of}
 use Rattle.k_commit.specs.Books.{BookRecord, pin_room_of}
 use Rattle.k_commit.specs.Holdings.{HoldingsValue}

@@ -5,3 +5,4 @@ pub mod CanDo
 pub mod Kept
 pub mod Steps
 pub mod Opened
+pub use Rattle.k_commit.proofs.Telling

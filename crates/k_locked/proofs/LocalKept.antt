@@ -29,8 +29,8 @@ use Rattle.k_frame.proofs.OwnerOf.{owner_user}
 use Rattle.k_frame.proofs.Tails.{local_touches}
 use Rattle.k_changes.specs.BookChanges.{owner_in}
 use Rattle.k_changes.proofs.Laws.{the_book_tells_the_owners}
-use Rattle.k_agree.specs.Agreement.{Agrees, Shows}
-use Rattle.k_agree.proofs.AtTheEnd.{cell_sound}
+use Rattle.k_commit.specs.k_agree.Agreement.{Agrees, Shows}
+use Rattle.k_commit.proofs.AtTheEnd.{cell_sound}
 use Rattle.k_squares.specs.CellAfter.{unless_refused}
 use Rattle.k_squares.specs.Locals.{is_local_in}
 use Rattle.k_squares.proofs.Laws.{local_operations_are_told, replies_are_told, steps_show_in_the_parts-cells}

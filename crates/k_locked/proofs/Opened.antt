@@ -12,8 +12,8 @@ use Rattle.k_types.specs.TraceRules.{KeepsRules}
 use Rattle.k_bounds.specs.Counts.{stores_in}
 use Rattle.k_bounds.proofs.ByProcess.{follows_own}
 use Rattle.k_tie.specs.Values.{blank_note, empty_journal}
-use Rattle.k_agree.specs.Rooms.{event_room, exit_room, serial_room}
-use Rattle.k_agree.proofs.Openings.{opened_cell}
+use Rattle.k_commit.specs.k_agree.Rooms.{event_room, exit_room, serial_room}
+use Rattle.k_commit.proofs.Openings.{opened_cell}
 use Rattle.k_space.specs.Objects.{BodyValue}
 use Rattle.k_bodies.specs.Bodies.{bodies_of}
 use Rattle.k_commit.specs.Books.{opened}

@@ -18,7 +18,7 @@ use Rattle.k_bounds.proofs.Dones.{length_at_most}
 use Rattle.k_bounds.proofs.ExitBounds.{user_exits}
 use Rattle.k_bounds.proofs.SerialBounds.{serials_at_most_allocations}
 use Rattle.k_bounds.proofs.SharedBounds.{shared_exits}
-use Rattle.k_agree.specs.Rooms.{AreFirst, IsNext, event_room, exit_room, over_processes, serial_room}
+use Rattle.k_commit.specs.k_agree.Rooms.{AreFirst, IsNext, event_room, exit_room, over_processes, serial_room}
 use Rattle.k_locked.specs.Rooms.{HasRoomLeft, shared_exit_room}
 
 module _ (trace : Trace) (history : List Event) (p : ℕ) (op : Op) (first : AreFirst trace history) (known : p < process_count trace) (next : IsNext trace p history op) where

@@ -31,10 +31,10 @@ use Rattle.k_bounds.proofs.Dones.{done_count}
 use Rattle.k_frame.specs.PartUpdates.{done_in}
 use Rattle.k_frame.proofs.Histories.{done_append}
 use Rattle.k_frame.proofs.Tails.{tail_length}
-use Rattle.k_agree.specs.Agreement.{Agrees}
-use Rattle.k_agree.specs.Meeting.{Fits}
-use Rattle.k_agree.specs.Rooms.{AreFirst, FitsTheRooms}
-use Rattle.k_agree.proofs.WithinRooms.{met_follows, tails_have_room}
+use Rattle.k_commit.specs.k_agree.Agreement.{Agrees}
+use Rattle.k_commit.specs.k_agree.Meeting.{Fits}
+use Rattle.k_commit.specs.k_agree.Rooms.{AreFirst, FitsTheRooms}
+use Rattle.k_commit.proofs.WithinRooms.{met_follows, tails_have_room}
 use Rattle.k_bodies.specs.Bodies.{bodies_of}
 use Rattle.k_commit.specs.Books.{BookRecord}
 use Rattle.k_commit.specs.Heaps.{HeapRecord, has_ended_in}

@@ -12,8 +12,8 @@ use Rattle.k_types.specs.Trace.{Trace, operations_of, segment_count, segment_of}
 use Rattle.k_types.specs.TraceRules.{KeepsRules}
 use Rattle.k_frame.specs.PartUpdates.{done_in}
 use Rattle.k_bounds.specs.Counts.{stores_in}
-use Rattle.k_agree.specs.Agreement.{Agrees}
-use Rattle.k_agree.specs.Rooms.{event_room, exit_room, serial_room}
+use Rattle.k_commit.specs.k_agree.Agreement.{Agrees}
+use Rattle.k_commit.specs.k_agree.Rooms.{event_room, exit_room, serial_room}
 use Rattle.k_bodies.specs.Bodies.{bodies_of}
 use Rattle.k_commit.specs.Books.{BookRecord}
 use Rattle.k_commit.specs.Holdings.{HoldingsValue}

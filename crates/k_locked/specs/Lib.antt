@@ -7,3 +7,9 @@ pub use Rattle.k_commit.specs.Stepped
 pub use Rattle.k_commit.specs.Beside
 pub use Rattle.k_commit.specs.Others
 pub use Rattle.k_commit.specs.Published
+pub use Rattle.k_commit.specs.k_book
+pub use Rattle.k_commit.specs.k_cell
+pub use Rattle.k_commit.specs as k_commit
+pub use Rattle.k_commit.specs.k_heap
+pub use Rattle.k_local.specs as k_local
+pub use Rattle.k_commit.specs.k_shared

@@ -7,7 +7,7 @@ use Rattle.k_types.specs.Owners.{user}
 use Rattle.k_types.specs.Steps.{state_after}
 use Rattle.k_types.specs.Trace.{Trace, operations_of}
 use Rattle.k_bounds.specs.Counts.{allocates_in, exit_count, is_share_of, is_store, stores_in}
-use Rattle.k_agree.specs.Rooms.{event_room, exit_room, over_processes, serial_room}
+use Rattle.k_commit.specs.k_agree.Rooms.{event_room, exit_room, over_processes, serial_room}
 
 -- the history leaves room for the operation that the process does next: for its event and one more, for an exit item if it is a
 -- store, and for a serial in the segment in which it allocates

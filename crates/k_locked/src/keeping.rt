@@ -1,7 +1,7 @@
 //! What the locks keep is kept by each step.
 ghost use Rattle.std.specs.Prelude.{IsFalse, List, Some, [], length, ◌+◌, ◌-◌, ◌<◌, ◌≡◌, ◌≤◌, ◌∷◌, ◌++◌, ◌^◌};
 ghost use Rattle.atomic_table.specs.Seated.{TableId};
-ghost use Rattle.k_agree.specs.Meeting.{Fits};
+ghost use Rattle.k_commit.specs.k_agree.Meeting.{Fits};
 ghost use Rattle.k_commit.specs.Books.{BookRecord};
 ghost use Rattle.k_commit.specs.Holdings.{HoldingsValue};
 ghost use Rattle.k_commit.specs.Beside.{HasSteppedWithKernel, HasSteppedWithShared};

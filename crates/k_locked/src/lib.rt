@@ -6,6 +6,8 @@ mod local;
 mod rooms;
 mod standing;
 
+pub use k_commit::{Book, HeapCell, KernelCell, SharedCell};
+pub use k_local::local as local_local;
 pub use keeping::{
     next_operations_can_be_local, steps_keep_what_the_locks_ask, tails_can_be_published,
 };

@@ -1,6 +1,6 @@
 //! Operations that a process does inside its own heap.
 ghost use Rattle.std.specs.Prelude.{IsFalse, IsTrue, Some, ◌++◌, ◌≡◌};
-ghost use Rattle.k_agree.specs.Agreement.{Agrees};
+ghost use Rattle.k_commit.specs.k_agree.Agreement.{Agrees};
 ghost use Rattle.k_commit.specs.Heaps.{has_ended_in};
 ghost use Rattle.k_local.specs.Locals.{after_local, local_answer};
 ghost use Rattle.k_tie.specs.Values.{NoteValue};

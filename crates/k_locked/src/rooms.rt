@@ -1,6 +1,6 @@
 //! The operation that comes next finds room.
 ghost use Rattle.std.specs.Prelude.{List, ◌<◌, ℕ};
-ghost use Rattle.k_agree.specs.Rooms.{AreFirst, IsNext};
+ghost use Rattle.k_commit.specs.k_agree.Rooms.{AreFirst, IsNext};
 ghost use Rattle.k_bounds.specs.Counts.{exit_count};
 ghost use Rattle.k_locked.specs.Rooms.{HasRoomLeft, shared_exit_room};
 ghost use Rattle.k_types.specs.Owners.{shared};

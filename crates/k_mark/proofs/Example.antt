@@ -1,13 +1,13 @@
 -- The three nodes, from their making to their marks.
 use Rattle.std.proofs.Common.{◌≡◌, ℕ, zero, suc, ◌↔◌, true, false, refl, sym, ap, ap₂, subst, ◌∙◌, List, [], ◌∷◌, length, map, get_or, slice_get, slice_set, Option, Some, None, option_map}
 use Rattle.std.proofs.lemmas.Bool.{false≢true, false_from_ne_true}
-use Rattle.k_base.proofs.Lists.{some_one}
-use Rattle.k_types.specs.declared.names.Name.{Name}
-use Rattle.k_types.specs.declared.names.Link.{Link}
-use Rattle.k_types.specs.declared.names.TypeId.{TypeId}
-use Rattle.k_types.specs.declared.names.Field.{Field}
-use Rattle.k_types.specs.Names.{name_of}
-use Rattle.k_types.specs.State.{Content, Refers, Holds}
+use Rattle.k_exit.proofs.BaseLists.{some_one}
+use Rattle.k_laws.specs.k_types.declared.names.Name.{Name}
+use Rattle.k_laws.specs.k_types.declared.names.Link.{Link}
+use Rattle.k_laws.specs.k_types.declared.names.TypeId.{TypeId}
+use Rattle.k_laws.specs.k_types.declared.names.Field.{Field}
+use Rattle.k_laws.specs.k_types.Names.{name_of}
+use Rattle.k_laws.specs.k_types.State.{Content, Refers, Holds}
 use Rattle.k_space.specs.Objects.{BodyValue, HasRef, new_body}
 use Rattle.k_space.specs.Segments.{SegmentValue, Row, Color, White, Gray, Black, LiesAt, row_at, with_row, placed, is_gray, is_marked, unmarked_row, unmarked_segment}
 use Rattle.k_space.specs.Areas.{AreaValue, place_of, row_in_segment, gray_at, marked_at, unmarked, grayed}

@@ -2,10 +2,10 @@
 use Rattle.std.proofs.Common.{◌≡◌, ◌≢◌, ◌==◌, ◌||◌, ◌⊎◌, ◌↔◌, ◌<◌, ◌≤◌, ℕ, zero, suc, cond, nat_lt, Bool, true, false, refl, sym, ap, ap₂, ◌∙◌, inl, inr, List, [], ◌∷◌, map, take, length, get_or, find, Option, Some, None, is_some, option_map, eq-eqb, ne_eqb, ltb-true, lt-ltb, arith}
 use Rattle.std.proofs.lemmas.Bool.{and_from, and_parts, cases_eq, cases_lt, false≢true, or_cases, or_left, or_right}
 use Rattle.std.proofs.lemmas.List.Folds.{find_at}
-use Rattle.k_base.proofs.Lists.{some_one}
-use Rattle.k_types.specs.declared.names.Name.{Name}
-use Rattle.k_types.specs.Names.{name_among}
-use Rattle.k_types.specs.State.{Content}
+use Rattle.k_exit.proofs.BaseLists.{some_one}
+use Rattle.k_laws.specs.k_types.declared.names.Name.{Name}
+use Rattle.k_laws.specs.k_types.Names.{name_among}
+use Rattle.k_laws.specs.k_types.State.{Content}
 use Rattle.k_space.specs.Segments.{Row, SegmentValue, Color, White, Gray, Black, some_gray, some_black, some_marked, is_black, is_marked, blackened_row, blackened_rows, unmarked_row, unmarked_segment}
 use Rattle.k_space.specs.Areas.{AreaValue, row_in_segment, row_of_name, segment_at, fields_at, gray_at, black_at, marked_at, blackened, blackened_in, unmarked}
 use Rattle.k_space.specs.declared.bound.Bound.{Bound}

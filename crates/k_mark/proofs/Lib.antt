@@ -11,3 +11,13 @@ pub mod SweepAll
 pub mod Telling
 pub mod ReachedIs
 pub mod Example
+pub use Rattle.k_exit.proofs.Charges
+pub use Rattle.k_exit.proofs.Objects
+pub use Rattle.k_exit.proofs.Ordered
+pub use Rattle.k_exit.proofs.Takes
+pub use Rattle.k_space.proofs.AreaRows
+pub use Rattle.k_space.proofs.GrayLists
+pub use Rattle.k_space.proofs.NameTests
+pub use Rattle.k_space.proofs.Numbers
+pub use Rattle.k_space.proofs.Segs
+pub use Rattle.k_space.proofs.Taken

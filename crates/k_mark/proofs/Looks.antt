@@ -1,14 +1,14 @@
 -- What looking at fields does to the marks.
 use Rattle.std.proofs.Common.{◌≡◌, ◌||◌, ◌&&◌, ◌+◌, ◌⊎◌, not, Bool, true, false, cond, refl, sym, ap, subst, ◌∙◌, inl, inr, List, [], ◌∷◌, count_by, map, Option, Some, None, is_some, option_map, arith}
 use Rattle.std.proofs.lemmas.Bool.{false≢true, and_parts, and_from, or_left, or_right, or_cases}
-use Rattle.k_types.specs.declared.names.Name.{Name}
-use Rattle.k_types.specs.State.{Content, Refers, Holds, content_leads_to}
-use Rattle.k_types.specs.Names.{name_eq}
+use Rattle.k_laws.specs.k_types.declared.names.Name.{Name}
+use Rattle.k_laws.specs.k_types.State.{Content, Refers, Holds, content_leads_to}
+use Rattle.k_laws.specs.k_types.Names.{name_eq}
 use Rattle.k_space.specs.Segments.{SegmentValue, Row, Color, White, Gray, Black, gray_or_black, some_black, some_marked, is_black, is_marked}
 use Rattle.k_space.specs.Areas.{AreaValue, segment_at, row_in_segment, row_of_name, with_row_of, HasDistinct, fields_at, is_foreign, black_at, marked_at, unmarked, grayed, grayed_row}
 use Rattle.k_exit.specs.Exits.{ExitRow, has_target, target_marked, targets, marked_if}
 use Rattle.k_mark.specs.Marking.{Marks, looked, looked_by, looked_all, fields_lead_to, is_ref}
-use Rattle.k_base.proofs.NameTests.{name_eq-true, name_eq-same}
+use Rattle.k_exit.proofs.NameTests.{name_eq-true, name_eq-same}
 use Rattle.k_space.proofs.AreaRows.{Found, found, after_same, after_other, after_foreign, after_distinct, after_total, same_unmarked}
 use Rattle.k_mark.proofs.Left.{left, todo_row, black_work, black_row}
 

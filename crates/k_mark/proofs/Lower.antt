@@ -3,10 +3,10 @@ use Rattle.std.proofs.Common.{◌≡◌, ℕ, suc, ◌+◌, ◌<◌, Bool, true,
 use Rattle.std.specs.List.{list_any}
 use Rattle.std.proofs.lemmas.Bool.{cases_eq, false≢true, or_cases}
 use Rattle.std.proofs.lemmas.Option.{slice_get_within}
-use Rattle.k_base.proofs.Lists.{some_one}
-use Rattle.k_base.proofs.NameTests.{name_eq-true}
-use Rattle.k_types.specs.declared.names.Name.{Name}
-use Rattle.k_types.specs.State.{Content, Refers, content_leads_to}
+use Rattle.k_exit.proofs.BaseLists.{some_one}
+use Rattle.k_exit.proofs.NameTests.{name_eq-true}
+use Rattle.k_laws.specs.k_types.declared.names.Name.{Name}
+use Rattle.k_laws.specs.k_types.State.{Content, Refers, content_leads_to}
 use Rattle.k_space.specs.declared.body.Stored.{Stored}
 use Rattle.k_space.specs.declared.body.Stored.TheVariants.{Null}
 use Rattle.k_space.specs.declared.bound.Bound.{Bound}

@@ -1,15 +1,15 @@
 -- What marking keeps.
 use Rattle.std.proofs.Common.{◌≡◌, ◌+◌, ◌⊎◌, ◌↔◌, cond, Bool, true, false, refl, sym, ap, subst, ◌∙◌, inl, inr, List, count_by, Option, Some, None, is_some, option_map, arith}
 use Rattle.std.proofs.lemmas.Bool.{false≢true}
-use Rattle.k_types.specs.declared.names.Name.{Name}
+use Rattle.k_laws.specs.k_types.declared.names.Name.{Name}
 use Rattle.k_mark.proofs.Looks.{Looked, looked_list, test_after, recolored_shape}
-use Rattle.k_types.specs.State.{Content}
+use Rattle.k_laws.specs.k_types.State.{Content}
 use Rattle.k_space.specs.Segments.{Row, Color, White, Gray, Black, some_gray, some_black, some_marked, is_gray, is_black, is_marked}
 use Rattle.k_space.specs.Areas.{AreaValue, row_of_name, with_row_of, HasDistinct, fields_at, is_foreign, gray_at, black_at, marked_at, unmarked}
 use Rattle.k_exit.specs.Exits.{ExitRow, has_target, target_marked, targets}
 use Rattle.k_mark.specs.Marking.{Marks, looked_all, fields_lead_to, some_lead_to, refers_at, IsReachedIn, IsExit, is_ref}
 use Rattle.k_mark.specs.Reached.{begins, follows}
-use Rattle.k_base.proofs.NameTests.{name_eq-true}
+use Rattle.k_exit.proofs.NameTests.{name_eq-true}
 use Rattle.k_space.proofs.AreaRows.{found, after_same, after_foreign, after_distinct, after_total, same_unmarked}
 use Rattle.k_mark.proofs.Left.{left, todo_row, black_work, black_row}
 

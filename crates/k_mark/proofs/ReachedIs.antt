@@ -2,11 +2,11 @@
 use Rattle.std.proofs.Common.{◌≡◌, ℕ, zero, suc, ◌≤◌, ◌↔◌, ◌&&◌, Bool, true, sym, ◌∙◌, inl, inr, List, length, filter, le_refl}
 use Rattle.std.specs.List.{list_any}
 use Rattle.std.proofs.lemmas.Bool.{and_parts, and_from, or_cases}
-use Rattle.k_types.specs.declared.names.Name.{Name}
-use Rattle.k_types.specs.Names.{name_among}
-use Rattle.k_types.specs.State.{Object, has, refers, refers_in}
-use Rattle.k_types.specs.Reach.{closure, reach_among}
-use Rattle.k_base.proofs.Objects.{referred, referrer, refers_in_has}
+use Rattle.k_laws.specs.k_types.declared.names.Name.{Name}
+use Rattle.k_laws.specs.k_types.Names.{name_among}
+use Rattle.k_laws.specs.k_types.State.{Object, has, refers, refers_in}
+use Rattle.k_laws.specs.k_types.Reach.{closure, reach_among}
+use Rattle.k_exit.proofs.Objects.{referred, referrer, refers_in_has}
 use Rattle.k_laws.proofs.Closure.{set, in_set, set_has, set_refers, closed_refers, start_in}
 use Rattle.k_space.specs.Areas.{AreaValue, gray_at, is_foreign}
 use Rattle.k_mark.specs.Reached.{IsReached, begins, follows}

@@ -1,9 +1,9 @@
 -- What the rows of an area have of marks and of bytes.
 use Rattle.std.proofs.Common.{◌≡◌, ℕ, ◌+◌, ◌≤◌, Bool, true, false, cond, refl, List, [], ◌∷◌, length, sum_by, Option, Some, None, arith}
 use Rattle.std.proofs.lemmas.List.Sums.{sum_by-cons}
-use Rattle.k_types.specs.Totals.{total}
-use Rattle.k_types.specs.Owners.{object_bytes}
-use Rattle.k_types.specs.Types.{object_size}
+use Rattle.k_laws.specs.k_types.Totals.{total}
+use Rattle.k_laws.specs.k_types.Owners.{object_bytes}
+use Rattle.k_laws.specs.k_types.Types.{object_size}
 use Rattle.k_space.specs.Segments.{Row, objects_from, is_marked, some_black, unmarked_row}
 use Rattle.k_mark.specs.Sweeping.{dead_bytes_of}
 

@@ -5,7 +5,7 @@ use Rattle.std.proofs.lemmas.List.Edits.{map_over_more}
 use Rattle.std.proofs.lemmas.List.Folds.{position_or_len-set}
 use Rattle.std.proofs.lemmas.List.Sums.{sum_by-cons}
 use Rattle.std.proofs.lemmas.Option.{slice_get-get_or, slice_get_within, get_or_from_slice_get}
-use Rattle.k_base.proofs.Lists.{some_one, slice_get-set_other}
+use Rattle.k_exit.proofs.BaseLists.{some_one, slice_get-set_other}
 use Rattle.k_space.specs.Segments.{SegmentValue}
 use Rattle.k_space.specs.Areas.{place_of, segment_at, HasDistinct}
 use Rattle.k_space.proofs.AreaRows.{slice_get-set_same}

@@ -2,8 +2,8 @@
 use Rattle.std.proofs.Common.{◌≡◌, ℕ, suc, ◌+◌, ◌<◌, true, cond, refl, sym, ap, ap₂, ◌∙◌, List, [], ◌∷◌, length, map, get_or, sum_by, Option, Some, None, arith, ◌≤◌, Bool, false}
 use Rattle.std.proofs.Math.Seq.{map-set_same}
 use Rattle.std.proofs.lemmas.List.Sums.{sum_by-cons, sum_by-set}
-use Rattle.k_base.proofs.Lists.{some_inside}
-use Rattle.k_types.specs.Types.{object_size}
+use Rattle.k_exit.proofs.BaseLists.{some_inside}
+use Rattle.k_laws.specs.k_types.Types.{object_size}
 use Rattle.k_space.specs.declared.segment.Gone.{Gone}
 use Rattle.k_space.specs.Segments.{Row, SegmentValue, row_at, is_marked}
 use Rattle.k_space.specs.Sweeping.{IsTakenAway}

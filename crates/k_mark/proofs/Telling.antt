@@ -3,10 +3,10 @@ use Rattle.std.proofs.Common.{◌≡◌, ◌==◌, ◌&&◌, not, ℕ, zero, suc
 use Rattle.std.proofs.lemmas.Bool.{cases_eq, false_from_ne_true}
 use Rattle.std.proofs.lemmas.List.{get_or-set_same, get_or-set_other, length-append}
 use Rattle.std.proofs.lemmas.List.Sums.{sum_by-append, sum_by-cons, sum_by-set}
-use Rattle.k_base.proofs.Lists.{some_inside}
-use Rattle.k_base.proofs.Sums.{bit}
-use Rattle.k_types.specs.declared.names.Name.{Name}
-use Rattle.k_types.specs.Names.{name_eq}
+use Rattle.k_exit.proofs.BaseLists.{some_inside}
+use Rattle.k_exit.proofs.Sums.{bit}
+use Rattle.k_laws.specs.k_types.declared.names.Name.{Name}
+use Rattle.k_laws.specs.k_types.Names.{name_eq}
 use Rattle.k_space.specs.declared.segment.Gone.{Gone}
 use Rattle.k_space.specs.Segments.{Row, SegmentValue, row_at, is_marked}
 use Rattle.k_space.specs.Areas.{HasDistinct, place_of, row_in_segment, row_of_name}

@@ -2,9 +2,9 @@
 use Rattle.std.proofs.Common.{◌≡◌, ℕ, zero, suc, ◌+◌, true, false, refl, sym, ap, ap₂, subst, ◌∙◌, inl, inr, List, [], ◌∷◌, ◌++◌, count_by, cond, take, slice_get, Option, Some, None, is_some, option_map, add-one}
 use Rattle.std.proofs.lemmas.Bool.{or_left, or_right, or_cases, false≢true}
 use Rattle.std.proofs.lemmas.List.Sums.{sum_by-append}
-use Rattle.k_types.specs.declared.names.Name.{Name}
+use Rattle.k_laws.specs.k_types.declared.names.Name.{Name}
 use Rattle.k_mark.proofs.Looks.{Looked, looked_list}
-use Rattle.k_types.specs.State.{Content, content_leads_to}
+use Rattle.k_laws.specs.k_types.State.{Content, content_leads_to}
 use Rattle.k_space.specs.Segments.{Row}
 use Rattle.k_space.specs.Areas.{AreaValue, row_of_name, fields_at}
 use Rattle.k_exit.specs.Exits.{ExitRow}

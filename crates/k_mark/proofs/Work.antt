@@ -2,7 +2,7 @@
 use Rattle.std.proofs.Common.{◌≡◌, ℕ, suc, ◌+◌, false, cond, refl, sym, ap, ◌∙◌, List, [], ◌∷◌, get_or, slice_get, sum_by, count_by, Option, Some, None, arith}
 use Rattle.std.proofs.lemmas.List.Sums.{sum_by-cons}
 use Rattle.std.proofs.lemmas.Bool.{false≢true}
-use Rattle.k_types.specs.declared.names.Name.{Name}
+use Rattle.k_laws.specs.k_types.declared.names.Name.{Name}
 use Rattle.k_space.specs.Segments.{Row, SegmentValue, Color, White, Gray, Black, row_at, some_gray, some_black, is_gray, is_black, is_marked}
 use Rattle.k_space.specs.Areas.{AreaValue, HasDistinct, row_in_segment, row_of_name, gray_at, black_at, rows_total}
 use Rattle.k_space.proofs.Numbers.{found_at}

@@ -1,12 +1,12 @@
 -- Three objects of a reference, a reference and an integer: the first refers to the second in both reference fields, the second back to
 -- the first, and nothing to the third.
 use Rattle.std.specs.Prelude.{◌≡◌, ℕ, List, [], ◌∷◌, Option, Some, None}
-use Rattle.k_types.specs.declared.names.Name.{Name}
-use Rattle.k_types.specs.declared.names.Field.{Field}
-use Rattle.k_types.specs.declared.names.Field.TheVariants.{Ref, Int}
-use Rattle.k_types.specs.State.{Refers, Holds}
-use Rattle.k_types.specs.declared.names.Link.{Link}
-use Rattle.k_types.specs.Names.{name_of}
+use Rattle.k_laws.specs.k_types.declared.names.Name.{Name}
+use Rattle.k_laws.specs.k_types.declared.names.Field.{Field}
+use Rattle.k_laws.specs.k_types.declared.names.Field.TheVariants.{Ref, Int}
+use Rattle.k_laws.specs.k_types.State.{Refers, Holds}
+use Rattle.k_laws.specs.k_types.declared.names.Link.{Link}
+use Rattle.k_laws.specs.k_types.Names.{name_of}
 use Rattle.k_space.specs.Segments.{Color, White, Row, SegmentValue}
 use Rattle.k_space.specs.Areas.{AreaValue}
 

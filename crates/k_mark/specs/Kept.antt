@@ -1,6 +1,6 @@
 -- What an earlier collection kept.
 use Rattle.std.specs.Prelude.{◌&&◌, ◌⊎◌, Bool, IsTrue}
-use Rattle.k_types.specs.declared.names.Name.{Name}
+use Rattle.k_laws.specs.k_types.declared.names.Name.{Name}
 use Rattle.k_space.specs.declared.bound.Bound.{Bound}
 use Rattle.k_space.specs.Bounds.{is_covered}
 use Rattle.k_space.specs.Areas.{AreaValue, gray_at, is_foreign}

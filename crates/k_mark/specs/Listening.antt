@@ -1,8 +1,8 @@
 -- The names of the objects that a sweep frees.
 use Rattle.std.specs.Prelude.{◌≡◌, ℕ, ◌+◌, ◌==◌, List, length, if◌then◌else◌}
 use Rattle.std.specs.List.{sum_by}
-use Rattle.k_types.specs.declared.names.Name.{Name}
-use Rattle.k_types.specs.Names.{name_eq}
+use Rattle.k_laws.specs.k_types.declared.names.Name.{Name}
+use Rattle.k_laws.specs.k_types.Names.{name_eq}
 use Rattle.k_space.specs.Segments.{SegmentValue, row_at}
 use Rattle.k_space.specs.Areas.{AreaValue, row_of_name}
 use Rattle.k_mark.specs.Sweeping.{dead_row}

@@ -1,8 +1,8 @@
 -- What marking does to an area and the exit items.
 use Rattle.std.specs.Prelude.{◌≡◌, ℕ, ◌+◌, Bool, true, false, List, [], ◌∷◌, map, count_by, IsTrue, Option, Some, None, is_some, if◌then◌else◌}
 use Rattle.std.specs.List.{list_any}
-use Rattle.k_types.specs.declared.names.Name.{Name}
-use Rattle.k_types.specs.State.{Content, Object, Refers, Holds, content_leads_to, has, refers_in}
+use Rattle.k_laws.specs.k_types.declared.names.Name.{Name}
+use Rattle.k_laws.specs.k_types.State.{Content, Object, Refers, Holds, content_leads_to, has, refers_in}
 use Rattle.k_space.specs.Segments.{Row, is_marked}
 use Rattle.k_space.specs.Areas.{AreaValue, fields_at, is_foreign, gray_at, grayed, rows_total}
 use Rattle.k_exit.specs.Exits.{ExitRow, marked_if}

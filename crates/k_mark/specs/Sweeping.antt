@@ -1,6 +1,6 @@
 -- What sweeping frees.
 use Rattle.std.specs.Prelude.{ℕ, map, length, Option, Some, None, if◌then◌else◌}
-use Rattle.k_types.specs.Types.{object_size}
+use Rattle.k_laws.specs.k_types.Types.{object_size}
 use Rattle.k_space.specs.Segments.{Row, SegmentValue, is_marked}
 use Rattle.k_space.specs.Areas.{AreaValue, rows_total}
 

@@ -1,8 +1,8 @@
 //! Marking where an earlier collection kept objects that are still reached.
 ghost use Rattle.std.specs.Prelude.{Bool, ◌≡◌, ◌<◌, ◌≤◌, ◌↔◌, IsTrue, IsFalse, IfSome, Some, List, length, take};
-ghost use Rattle.k_types.specs.Names.{name_among};
-ghost use Rattle.k_types.specs.State.{Content, content_leads_to};
-ghost use Rattle.k_types.specs.declared.names.Name.{Name as Named};
+ghost use Rattle.k_laws.specs.k_types.Names.{name_among};
+ghost use Rattle.k_laws.specs.k_types.State.{Content, content_leads_to};
+ghost use Rattle.k_laws.specs.k_types.declared.names.Name.{Name as Named};
 ghost use Rattle.k_space.specs.Areas.{HasDistinct, is_foreign, marked_at, gray_at, black_at, row_of_name, unmarked};
 ghost use Rattle.k_space.specs.Bounds.{is_covered};
 ghost use Rattle.k_space.specs.Objects.{content_of};

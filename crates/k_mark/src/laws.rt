@@ -1,10 +1,10 @@
 //! Laws of the definitions.
 ghost use Rattle.std.specs.Prelude.{◌≡◌, ◌↔◌, ◌&&◌, not, Bool, List, length, filter, IsTrue};
 ghost use Rattle.std.specs.List.{list_any};
-ghost use Rattle.k_types.specs.declared.names.Name.{Name};
-ghost use Rattle.k_types.specs.Names.{name_among};
-ghost use Rattle.k_types.specs.State.{Object, has, refers, refers_in};
-ghost use Rattle.k_types.specs.Reach.{closure, reach_among};
+ghost use Rattle.k_laws.specs.k_types.declared.names.Name.{Name};
+ghost use Rattle.k_laws.specs.k_types.Names.{name_among};
+ghost use Rattle.k_laws.specs.k_types.State.{Object, has, refers, refers_in};
+ghost use Rattle.k_laws.specs.k_types.Reach.{closure, reach_among};
 ghost use Rattle.k_space.specs.Areas.{AreaValue, gray_at, is_foreign};
 ghost use Rattle.k_mark.specs.Reached.{IsReached};
 ghost use Rattle.k_mark.specs.Marking.{IsReachedIn, IsExit, ShowsObjects};

@@ -19,6 +19,9 @@ mod marking;
 mod steps;
 mod sweeping;
 
+pub use k_exit::ExitTable;
+pub use k_laws::{CellPhase, Link, Name, NoMemory, Seg, TypeId};
+pub use k_space::{Area, Body, Bound, Segment, Stored};
 pub use keeping::mark_kept;
 pub use laws::{marked_is_the_closure, reached_is_the_closure};
 pub use listening::{Freed, Listener, Nobody};

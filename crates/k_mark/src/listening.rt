@@ -1,9 +1,8 @@
 //! Who is told the names of the objects that are freed.
 ghost use Rattle.std.specs.Prelude.{ℕ, ◌≡◌, ◌<◌, ◌++◌, ◌∷◌, [], List, length, IfOk};
-ghost use Rattle.k_types.specs.declared.names.Name.{Name as Named};
+ghost use Rattle.k_laws.specs.k_types.declared.names.Name.{Name as Named};
 
-use k_io::NoMemory;
-use k_types::Name;
+use k_laws::{Name, NoMemory};
 use std::alloc::Global;
 use std::marker::Model;
 

@@ -1,8 +1,8 @@
 //! Marking: what references reach from the gray objects is black in the end.
 ghost use Rattle.std.specs.Prelude.{◌≡◌, ℕ, ◌<◌, ◌≤◌, ◌↔◌, IsTrue, IsFalse, IsSome, Some, None, List, length, is_some, ◌∷◌, [], ◌+◌, count_by};
-ghost use Rattle.k_types.specs.declared.names.Name.{Name as Named};
-ghost use Rattle.k_types.specs.State.{Content};
-ghost use Rattle.k_types.specs.Names.{name_of};
+ghost use Rattle.k_laws.specs.k_types.declared.names.Name.{Name as Named};
+ghost use Rattle.k_laws.specs.k_types.State.{Content};
+ghost use Rattle.k_laws.specs.k_types.Names.{name_of};
 ghost use Rattle.k_space.specs.Objects.{content_of};
 ghost use Rattle.k_space.specs.Areas.{HasDistinct, row_of_name, fields_at, is_foreign, marked_at, gray_at, black_at, grayed, unmarked};
 ghost use Rattle.k_space.specs.Visiting.{AreHeld};
@@ -11,8 +11,8 @@ ghost use Rattle.k_mark.specs.Marking.{IsReachedIn, IsExit, Marks, looked, looke
 
 use crate::steps::Steps;
 use k_exit::ExitTable;
+use k_laws::Link;
 use k_space::{Area, Stored, Visited};
-use k_types::Link;
 use std::marker::Brand;
 use std::sync::ledger::{Blank, Ledger};
 

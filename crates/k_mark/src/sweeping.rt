@@ -6,8 +6,8 @@ ghost use Rattle.k_mark.specs.Listening.{AreTold, dead_at, dead_in};
 ghost use Rattle.k_mark.specs.Sweeping.{swept, swept_segment, dead_objects, dead_bytes, dead_row, dead_bytes_of};
 
 use crate::listening::{Listener, Nobody};
+use k_laws::Name;
 use k_space::{Area, Segment};
-use k_types::Name;
 
 /// What was freed: how many objects, and how many bytes they took.
 #[derive(Clone, Copy, Debug)]

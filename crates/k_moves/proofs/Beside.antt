@@ -16,9 +16,9 @@ use Rattle.k_types.specs.Owners.{user}
 use Rattle.k_types.specs.Replies.{at_base, first_fault, number_in, reference, refused_or}
 use Rattle.k_types.specs.State.{Holds, Refers}
 use Rattle.k_types.specs.Trace.{Trace}
-use Rattle.k_base.proofs.NameTests.{heap_eq_refl, heap_eq_sym}
-use Rattle.k_frame.specs.PartUpdates.{held_in, with_done, with_register, with_written}
-use Rattle.k_changes.specs.BookChanges.{owner_in, with_pin_moved}
+use Rattle.k_agree.proofs.NameTests.{heap_eq_refl, heap_eq_sym}
+use Rattle.k_agree.specs.k_frame.PartUpdates.{held_in, with_done, with_register, with_written}
+use Rattle.k_agree.specs.k_changes.BookChanges.{owner_in, with_pin_moved}
 use Rattle.k_squares.specs.Answers.{answer_in, faults_in, field_in, load_faults_in, number_faults_in, number_from_in, reference_from_in, reply_in, store_faults_in}
 use Rattle.k_squares.specs.BookAfter.{book_after, book_operated, book_stored}
 use Rattle.k_squares.specs.CellAfter.{at_cell, cell_after, cells_operated, cells_put, cells_stored, register_in, with_exit_for}

@@ -7,8 +7,8 @@ use Rattle.k_types.specs.declared.names.Name.{Name}
 use Rattle.k_types.specs.declared.names.TypeId.{TypeId}
 use Rattle.k_types.specs.Agree.{CellValue}
 use Rattle.k_types.specs.Names.{name_among, name_eq}
-use Rattle.k_base.proofs.NameTests.{name_eq-true}
-use Rattle.k_changes.specs.CellChanges.{given, with_created, with_exit_to}
+use Rattle.k_agree.proofs.NameTests.{name_eq-true}
+use Rattle.k_agree.specs.k_changes.CellChanges.{given, with_created, with_exit_to}
 use Rattle.k_moves.specs.Shown.{idle_part, value_with_exit, value_with_new}
 
 set_at : {A : Type 0} (xs : List A) (i k : ℕ) (y d : A) → i < length xs → get_or (set xs i y) k d ≡ cond (k == i) y (get_or xs k d)

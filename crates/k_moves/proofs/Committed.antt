@@ -11,8 +11,8 @@ use Rattle.k_types.specs.Sound.{IsSound}
 use Rattle.k_types.specs.State.{State}
 use Rattle.k_types.specs.Steps.{state_after}
 use Rattle.k_types.specs.Trace.{Trace}
-use Rattle.k_tie.specs.Values.{JournalValue, NoteValue}
-use Rattle.k_changes.proofs.SoundSteps.{legal_sound}
+use Rattle.k_agree.specs.k_tie.Values.{JournalValue, NoteValue}
+use Rattle.k_agree.proofs.SoundSteps.{legal_sound}
 use Rattle.k_agree.specs.Committing.{CanCommit}
 use Rattle.k_agree.proofs.Touched.{as_listed}
 use Rattle.k_moves.specs.Moves.{CommitsAlone, CommitsBoth, HasMoved, HasMovedBoth, noted}

@@ -17,7 +17,7 @@ use Rattle.k_types.specs.State.{State, is_scanned}
 use Rattle.k_types.specs.Steps.{IsPossible, no_orphan}
 use Rattle.k_types.specs.Trace.{Trace}
 use Rattle.k_types.specs.TraceRules.{AreLimits}
-use Rattle.k_base.proofs.NameTests.{heap_eq_refl, heap_eq-true}
+use Rattle.k_agree.proofs.NameTests.{heap_eq_refl, heap_eq-true}
 use Rattle.k_agree.specs.Agreement.{BookShows}
 use Rattle.k_agree.specs.Committing.{cell_among}
 use Rattle.k_squares.specs.Answers.{reply_in}

@@ -18,10 +18,10 @@ use Rattle.k_types.specs.Owners.{user}
 use Rattle.k_types.specs.Replies.{first_fault, refused_or}
 use Rattle.k_types.specs.State.{Refers}
 use Rattle.k_types.specs.Trace.{Trace, kinds_of, limit_of, segment_of, size_of_type}
-use Rattle.k_base.proofs.NameTests.{heap_eq_refl}
-use Rattle.k_frame.specs.PartUpdates.{held_in, with_done, with_register, with_written}
-use Rattle.k_changes.specs.BookChanges.{owner_in, with_charge, with_pin_moved}
-use Rattle.k_changes.specs.CellChanges.{next_name_in, with_created}
+use Rattle.k_agree.proofs.NameTests.{heap_eq_refl}
+use Rattle.k_agree.specs.k_frame.PartUpdates.{held_in, with_done, with_register, with_written}
+use Rattle.k_agree.specs.k_changes.BookChanges.{owner_in, with_charge, with_pin_moved}
+use Rattle.k_agree.specs.k_changes.CellChanges.{next_name_in, with_created}
 use Rattle.k_squares.specs.Answers.{answer_in, faults_in, reply_in, size_fault_in, store_faults_in}
 use Rattle.k_squares.specs.BookAfter.{book_after, book_operated, book_stored}
 use Rattle.k_squares.specs.CellAfter.{at_cell, cell_after, cells_operated, cells_stored, with_exit_for}

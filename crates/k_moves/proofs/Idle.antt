@@ -12,8 +12,8 @@ use Rattle.k_types.specs.Numbers.{numbers_below}
 use Rattle.k_types.specs.Owners.{is_absorbed, phase_of, shared, user}
 use Rattle.k_types.specs.State.{State, is_scanned, scan_of}
 use Rattle.k_types.specs.Trace.{Trace, process_count, segment_count}
-use Rattle.k_changes.specs.BookChanges.{owner_in}
-use Rattle.k_changes.proofs.Laws.{the_book_tells_the_owners}
+use Rattle.k_agree.specs.k_changes.BookChanges.{owner_in}
+use Rattle.k_agree.proofs.Laws.{the_book_tells_the_owners}
 use Rattle.k_agree.specs.Agreement.{BookShows}
 use Rattle.k_moves.specs.Shown.{ShowsIdle, idle_part}
 use Rattle.k_moves.specs.Moves.{KeepsOwners}

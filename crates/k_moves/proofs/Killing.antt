@@ -16,10 +16,10 @@ use Rattle.k_types.specs.Limits.{is_above}
 use Rattle.k_types.specs.Owners.{user}
 use Rattle.k_types.specs.Replies.{fault_where, first_fault, refused_or}
 use Rattle.k_types.specs.Trace.{Trace}
-use Rattle.k_base.proofs.NameTests.{heap_eq_refl}
-use Rattle.k_frame.specs.PartUpdates.{held_in, with_done}
-use Rattle.k_changes.specs.BookChanges.{owner_in, when_ended, with_max}
-use Rattle.k_changes.specs.CellChanges.{at_its_end}
+use Rattle.k_agree.proofs.NameTests.{heap_eq_refl}
+use Rattle.k_agree.specs.k_frame.PartUpdates.{held_in, with_done}
+use Rattle.k_agree.specs.k_changes.BookChanges.{owner_in, when_ended, with_max}
+use Rattle.k_agree.specs.k_changes.CellChanges.{at_its_end}
 use Rattle.k_squares.specs.Answers.{answer_in, faults_in, reply_in}
 use Rattle.k_squares.specs.BookAfter.{book_after, book_operated}
 use Rattle.k_squares.specs.CellAfter.{at_cell, cell_after, cells_given, cells_operated, unless_refused}

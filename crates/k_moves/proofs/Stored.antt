@@ -5,8 +5,8 @@ use Rattle.k_types.specs.declared.names.Heap.{Heap}
 use Rattle.k_types.specs.declared.names.Name.{Name}
 use Rattle.k_types.specs.Cells.{BookPart, CellPart}
 use Rattle.k_types.specs.Names.{heap_eq}
-use Rattle.k_changes.specs.BookChanges.{with_entry}
-use Rattle.k_changes.specs.CellChanges.{with_exit_to}
+use Rattle.k_agree.specs.k_changes.BookChanges.{with_entry}
+use Rattle.k_agree.specs.k_changes.CellChanges.{with_exit_to}
 use Rattle.k_squares.specs.BookAfter.{book_stored}
 use Rattle.k_squares.specs.CellAfter.{with_exit_for}
 use Rattle.k_moves.specs.Shown.{part_alone}

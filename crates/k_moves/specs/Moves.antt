@@ -14,8 +14,8 @@ use Rattle.k_types.specs.State.{State}
 use Rattle.k_types.specs.Steps.{IsLegalHistory, IsPossible, in_range, state_after, waits_for_orphans}
 use Rattle.k_types.specs.Trace.{Trace, process_count}
 use Rattle.k_types.specs.TraceRules.{AreLimits}
-use Rattle.k_tie.specs.Values.{JournalValue, NoteValue}
-use Rattle.k_changes.specs.BookChanges.{owner_in}
+use Rattle.k_agree.specs.k_tie.Values.{JournalValue, NoteValue}
+use Rattle.k_agree.specs.k_changes.BookChanges.{owner_in}
 use Rattle.k_agree.specs.Agreement.{AreTotals, BookShows}
 use Rattle.k_agree.specs.Committing.{NotedCell}
 use Rattle.k_agree.specs.Meeting.{HasMet}

@@ -11,8 +11,8 @@ use Rattle.k_types.specs.Names.{heap_eq, name_among}
 use Rattle.k_types.specs.State.{State, Content, fresh}
 use Rattle.k_types.specs.Trace.{Trace}
 use Rattle.k_types.specs.Updates.{object_after_write, with_object}
-use Rattle.k_frame.specs.PartUpdates.{process_with_register}
-use Rattle.k_changes.specs.CellChanges.{given}
+use Rattle.k_agree.specs.k_frame.PartUpdates.{process_with_register}
+use Rattle.k_agree.specs.k_changes.CellChanges.{given}
 use Rattle.k_agree.specs.Agreement.{Shows}
 
 -- what a cell shows of its part while no collection is open

@@ -1,7 +1,7 @@
 //! What a load, a put or a get makes of the parts where the object is of a heap whose cell it touches beside the process's own.
 ghost use Rattle.std.specs.Prelude.{◌≡◌, ◌∷◌, ℕ, [], IsFalse, None, Some};
-ghost use Rattle.k_changes.specs.BookChanges.{owner_in, with_pin_moved};
-ghost use Rattle.k_frame.specs.PartUpdates.{held_in, with_done, with_register, with_written};
+ghost use Rattle.k_agree.specs.k_changes.BookChanges.{owner_in, with_pin_moved};
+ghost use Rattle.k_agree.specs.k_frame.PartUpdates.{held_in, with_done, with_register, with_written};
 ghost use Rattle.k_moves.specs.Moves.{GivesBoth};
 ghost use Rattle.k_squares.specs.Answers.{field_in, load_faults_in, number_faults_in};
 ghost use Rattle.k_squares.specs.Touches.{base_cell_in};

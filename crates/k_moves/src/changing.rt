@@ -1,7 +1,7 @@
 //! What the changes of a cell's value show.
 ghost use Rattle.std.specs.Prelude.{◌≡◌, ◌<◌, ℕ, List, Option, Some, length};
-ghost use Rattle.k_changes.specs.CellChanges.{in_phase, with_created, with_exit_to};
-ghost use Rattle.k_frame.specs.PartUpdates.{with_done, with_register, with_written};
+ghost use Rattle.k_agree.specs.k_changes.CellChanges.{in_phase, with_created, with_exit_to};
+ghost use Rattle.k_agree.specs.k_frame.PartUpdates.{with_done, with_register, with_written};
 ghost use Rattle.k_moves.specs.Shown.{idle_part, value_with_exit, value_with_field, value_with_new, value_with_register};
 ghost use Rattle.k_types.specs.Agree.{CellValue};
 ghost use Rattle.k_types.specs.State.{Content};

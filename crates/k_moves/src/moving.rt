@@ -2,7 +2,7 @@
 ghost use Rattle.std.specs.Prelude.{[], ◌∷◌};
 ghost use Rattle.k_agree.specs.Committing.{CanCommit};
 ghost use Rattle.k_moves.specs.Moves.{CommitsAlone, CommitsBoth, HasMoved, HasMovedBoth, MovesAlone, MovesBoth, noted};
-ghost use Rattle.k_tie.specs.Values.{JournalValue, NoteValue};
+ghost use Rattle.k_agree.specs.k_tie.Values.{JournalValue, NoteValue};
 ghost use Rattle.k_types.specs.Agree.{BookValue, CellValue};
 ghost use Rattle.k_types.specs.Cells.{Cell};
 ghost use Rattle.k_types.specs.Sound.{IsSound};

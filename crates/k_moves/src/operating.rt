@@ -1,8 +1,8 @@
 //! What operations in the own cell make of its part and of the book's.
 ghost use Rattle.std.specs.Prelude.{◌≡◌, ℕ, IsFalse, IsTrue, None, Some, [], ◌∷◌};
-ghost use Rattle.k_changes.specs.BookChanges.{owner_in, with_charge, with_max, with_pin_moved};
-ghost use Rattle.k_changes.specs.CellChanges.{next_name_in, with_created};
-ghost use Rattle.k_frame.specs.PartUpdates.{held_in, with_done, with_register};
+ghost use Rattle.k_agree.specs.k_changes.BookChanges.{owner_in, with_charge, with_max, with_pin_moved};
+ghost use Rattle.k_agree.specs.k_changes.CellChanges.{next_name_in, with_created};
+ghost use Rattle.k_agree.specs.k_frame.PartUpdates.{held_in, with_done, with_register};
 ghost use Rattle.k_moves.specs.Moves.{GivesAlone, GivesBoth};
 ghost use Rattle.k_moves.specs.Shown.{part_alone, two_parts};
 ghost use Rattle.k_squares.specs.Answers.{faults_in, reply_in, size_fault_in};

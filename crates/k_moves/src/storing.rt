@@ -1,8 +1,8 @@
 //! What a store makes of the parts of the cells that it touches and of the book's.
 ghost use Rattle.std.specs.Prelude.{◌≡◌, ◌∷◌, ℕ, true, [], IsFalse, IsTrue, None, Option, Some};
-ghost use Rattle.k_changes.specs.BookChanges.{owner_in, with_entry};
-ghost use Rattle.k_changes.specs.CellChanges.{with_exit_to};
-ghost use Rattle.k_frame.specs.PartUpdates.{held_in, with_done, with_written};
+ghost use Rattle.k_agree.specs.k_changes.BookChanges.{owner_in, with_entry};
+ghost use Rattle.k_agree.specs.k_changes.CellChanges.{with_exit_to};
+ghost use Rattle.k_agree.specs.k_frame.PartUpdates.{held_in, with_done, with_written};
 ghost use Rattle.k_moves.specs.Moves.{GivesAlone, GivesBoth};
 ghost use Rattle.k_moves.specs.Shown.{part_alone};
 ghost use Rattle.k_squares.specs.Answers.{store_faults_in};

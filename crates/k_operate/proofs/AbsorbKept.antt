@@ -19,9 +19,9 @@ use Rattle.k_agree.proofs.AtTheEnd.{book_sound}
 use Rattle.k_agree.proofs.Meetings.{meeting}
 use Rattle.k_agree.proofs.WithinRooms.{fits_rooms}
 use Rattle.k_moves.proofs.Idle.{not_open}
-use Rattle.k_book.specs.Books.{BookRecord}
-use Rattle.k_book.proofs.Telling.{tells}
-use Rattle.k_cell.specs.Holdings.{HoldingsValue}
+use Rattle.k_process.specs.k_book.Books.{BookRecord}
+use Rattle.k_process.proofs.Telling.{tells}
+use Rattle.k_process.specs.k_cell.Holdings.{HoldingsValue}
 use Rattle.k_process.specs.SharedHeaps.{SharedRecord}
 use Rattle.k_shares.specs.Sharers.{is_orphan_by, lowest_orphan}
 use Rattle.k_steps.specs.Begun.{HasAppended}

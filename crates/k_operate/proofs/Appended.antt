@@ -31,8 +31,8 @@ use Rattle.k_agree.proofs.AtTheEnd.{maxima_counted}
 use Rattle.k_agree.proofs.Meetings.{meeting}
 use Rattle.k_agree.proofs.WithinRooms.{fits_rooms, follows_after, room_after}
 use Rattle.k_bodies.specs.Bodies.{bodies_of}
-use Rattle.k_book.specs.Books.{BookRecord, pin_room_of}
-use Rattle.k_heap.specs.Heaps.{HeapRecord}
+use Rattle.k_process.specs.k_book.Books.{BookRecord, pin_room_of}
+use Rattle.k_process.specs.k_heap.Heaps.{HeapRecord}
 use Rattle.k_process.specs.CommitStanding.{BookStands}
 use Rattle.k_steps.specs.Begun.{HasAppended}
 use Rattle.k_process.specs.Keeping.{BookKeeps, CanGive, HasHeapRooms, HeapKeeps, operations_left}

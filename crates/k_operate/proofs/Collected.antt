@@ -21,9 +21,9 @@ use Rattle.k_agree.specs.Marking.{marked}
 use Rattle.k_agree.specs.Meeting.{Fits}
 use Rattle.k_agree.proofs.Meetings.{meeting}
 use Rattle.k_bodies.specs.Bodies.{bodies_of}
-use Rattle.k_book.specs.Books.{BookRecord}
-use Rattle.k_cell.specs.Changes.{with_black_alone}
-use Rattle.k_heap.specs.Heaps.{HeapRecord, own_segment}
+use Rattle.k_process.specs.k_book.Books.{BookRecord}
+use Rattle.k_process.specs.k_cell.Changes.{with_black_alone}
+use Rattle.k_process.specs.k_heap.Heaps.{HeapRecord, own_segment}
 use Rattle.k_steps.specs.Begun.{HasAppended, HasBegunHeap}
 use Rattle.k_steps.specs.Collecting.{CanBeginHeap, CanEndHeap}
 use Rattle.k_steps.specs.Ended.{HasEndedHeap}

@@ -17,9 +17,9 @@ use Rattle.k_agree.proofs.AtTheEnd.{book_sound}
 use Rattle.k_agree.proofs.Meetings.{meeting}
 use Rattle.k_agree.proofs.WithinRooms.{fits_rooms}
 use Rattle.k_bodies.specs.Bodies.{bodies_of}
-use Rattle.k_book.specs.Books.{BookRecord}
-use Rattle.k_cell.specs.Holdings.{HoldingsValue}
-use Rattle.k_heap.specs.Heaps.{HeapRecord, own_segment}
+use Rattle.k_process.specs.k_book.Books.{BookRecord}
+use Rattle.k_process.specs.k_cell.Holdings.{HoldingsValue}
+use Rattle.k_process.specs.k_heap.Heaps.{HeapRecord, own_segment}
 use Rattle.k_steps.specs.Begun.{HasAppended}
 use Rattle.k_steps.specs.Exiting.{CanExit, HasExited}
 use Rattle.k_process.specs.Keeping.{BookKeeps, CanGive, HeapKeeps, KernelKeeps, operations_left}

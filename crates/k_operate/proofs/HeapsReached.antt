@@ -17,7 +17,7 @@ use Rattle.k_squares.specs.Touches.{access_cell_in, base_cell_in, ends_other_in,
 use Rattle.k_agree.proofs.AtTheEnd.{book_sound}
 use Rattle.k_frame.specs.PartUpdates.{held_in}
 use Rattle.k_changes.specs.BookChanges.{owner_in}
-use Rattle.k_book.specs.Books.{BookRecord}
+use Rattle.k_process.specs.k_book.Books.{BookRecord}
 use Rattle.k_process.specs.CommitStanding.{BookStands}
 use Rattle.k_moves.proofs.Killing.{never_one}
 

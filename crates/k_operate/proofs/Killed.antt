@@ -15,9 +15,9 @@ use Rattle.k_base.proofs.Ancestors.{above_another}
 use Rattle.k_bounds.specs.Counts.{stores_in}
 use Rattle.k_agree.specs.Rooms.{exit_room}
 use Rattle.k_bodies.specs.Bodies.{bodies_of}
-use Rattle.k_book.specs.Books.{BookRecord}
-use Rattle.k_cell.specs.Holdings.{HoldingsValue}
-use Rattle.k_heap.specs.Heaps.{HeapRecord, has_ended_in, own_segment}
+use Rattle.k_process.specs.k_book.Books.{BookRecord}
+use Rattle.k_process.specs.k_cell.Holdings.{HoldingsValue}
+use Rattle.k_process.specs.k_heap.Heaps.{HeapRecord, has_ended_in, own_segment}
 use Rattle.k_steps.specs.Killing.{CanKill, HasKilled}
 use Rattle.k_process.specs.Keeping.{BookKeeps, CanGive, HeapKeeps, operations_left}
 use Rattle.k_process.proofs.CanDo.{event_left, heap_stands}

@@ -13,3 +13,6 @@ pub mod AbsorbKept
 pub mod Killed
 pub use Rattle.k_process.proofs.Written
 pub use Rattle.k_process.proofs.Looped
+pub use Rattle.k_steps.proofs.KernelBegins
+pub use Rattle.k_process.proofs.CanDo
+pub use Rattle.k_process.proofs.Kept

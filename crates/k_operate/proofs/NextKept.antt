@@ -10,9 +10,9 @@ use Rattle.k_types.specs.Cells.{Cell}
 use Rattle.k_squares.specs.Locals.{is_local_in}
 use Rattle.k_squares.specs.Touches.{other_cells_in}
 use Rattle.k_moves.specs.Shown.{idle_part}
-use Rattle.k_book.specs.Books.{BookRecord}
-use Rattle.k_cell.specs.Holdings.{HoldingsValue}
-use Rattle.k_heap.specs.Heaps.{HeapRecord}
+use Rattle.k_process.specs.k_book.Books.{BookRecord}
+use Rattle.k_process.specs.k_cell.Holdings.{HoldingsValue}
+use Rattle.k_process.specs.k_heap.Heaps.{HeapRecord}
 use Rattle.k_process.specs.SharedHeaps.{SharedRecord}
 use Rattle.k_process.specs.Keeping.{operations_left}
 use Rattle.k_process.specs.declared.process.Process.{Process}

@@ -7,9 +7,9 @@ use Rattle.k_types.specs.Following.{FollowsOwn, FollowsTrace}
 use Rattle.k_types.specs.Trace.{Trace, operations_of, process_count}
 use Rattle.k_frame.specs.PartUpdates.{done_in}
 use Rattle.k_agree.specs.Rooms.{event_room, exit_room}
-use Rattle.k_book.specs.Books.{BookRecord, pin_room_of}
-use Rattle.k_book.specs.Machine.{IsBookOf}
-use Rattle.k_heap.specs.Heaps.{HeapRecord, has_ended_in}
+use Rattle.k_process.specs.k_book.Books.{BookRecord, pin_room_of}
+use Rattle.k_process.specs.k_book.Machine.{IsBookOf}
+use Rattle.k_process.specs.k_heap.Heaps.{HeapRecord, has_ended_in}
 use Rattle.k_process.specs.Published.{CanPublish, HasPublished}
 use Rattle.k_process.specs.Keeping.{BookKeeps, HeapKeeps}
 use Rattle.k_process.proofs.Steps.{other_keeps, own_tail_follows, tail_fits, tail_follows}

@@ -10,12 +10,12 @@ use Rattle.k_base.specs.Distinct.{AreDistinctNames}
 use Rattle.k_squares.specs.Locals.{is_local_in}
 use Rattle.k_types.specs.Trace.{operations_of}
 use Rattle.k_moves.specs.Shown.{idle_part}
-use Rattle.k_book.specs.Books.{BookRecord, book_entries}
+use Rattle.k_process.specs.k_book.Books.{BookRecord, book_entries}
 use Rattle.k_entry.specs.Entries.{AreEntries}
-use Rattle.k_cell.specs.Holdings.{HoldingsValue}
-use Rattle.k_heap.specs.Heaps.{HeapRecord}
+use Rattle.k_process.specs.k_cell.Holdings.{HoldingsValue}
+use Rattle.k_process.specs.k_heap.Heaps.{HeapRecord}
 use Rattle.k_process.specs.SharedHeaps.{SharedRecord}
-use Rattle.k_local.specs.Locals.{after_local, local_answer}
+use Rattle.k_process.specs.k_local.Locals.{after_local, local_answer}
 use Rattle.k_process.specs.Beside.{HasSteppedWithKernel, HasSteppedWithShared}
 use Rattle.k_process.specs.Others.{shared_by}
 use Rattle.k_process.specs.Stepped.{HasStepped}

@@ -9,7 +9,7 @@ use Rattle.k_types.specs.declared.op.Op.{Op}
 use Rattle.k_types.specs.FileOrder.{absorptions, heap_begun}
 use Rattle.k_types.specs.Steps.{state_after, waits_for_orphans}
 use Rattle.k_types.specs.Trace.{Trace}
-use Rattle.k_book.specs.Books.{BookRecord}
+use Rattle.k_process.specs.k_book.Books.{BookRecord}
 use Rattle.k_process.specs.declared.process.Process.{Process}
 
 -- what the journal has, and then what the process has not published

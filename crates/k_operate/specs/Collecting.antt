@@ -12,9 +12,9 @@ use Rattle.k_mark.specs.declared.sweeping.Swept.{Swept}
 use Rattle.k_agree.specs.Agreement.{Agrees}
 use Rattle.k_agree.specs.Rooms.{exit_room}
 use Rattle.k_bodies.specs.Bodies.{bodies_of}
-use Rattle.k_book.specs.Books.{BookRecord}
-use Rattle.k_cell.specs.Holdings.{HoldingsValue}
-use Rattle.k_heap.specs.Heaps.{HeapRecord, own_segment}
+use Rattle.k_process.specs.k_book.Books.{BookRecord}
+use Rattle.k_process.specs.k_cell.Holdings.{HoldingsValue}
+use Rattle.k_process.specs.k_heap.Heaps.{HeapRecord, own_segment}
 use Rattle.k_shares.specs.Sharers.{lowest_orphan}
 use Rattle.k_steps.specs.SweptAlone.{HasSweptAlone, KernelHasSweptAlone}
 use Rattle.k_process.specs.Keeping.{BookKeeps, CanGive, KernelKeeps, operations_left}

@@ -11,3 +11,7 @@ pub use Rattle.k_steps.specs.Own
 pub use Rattle.k_steps.specs.Killing as DepartKilling
 pub use Rattle.k_steps.specs.Absorbing as DepartAbsorbing
 pub use Rattle.k_steps.specs.Exiting
+pub use Rattle.k_steps.specs.k_collect
+pub use Rattle.k_process.specs.k_commit
+pub use Rattle.k_process.specs.k_local
+pub use Rattle.k_process.specs as k_process

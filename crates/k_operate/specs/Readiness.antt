@@ -3,7 +3,7 @@ use Rattle.std.specs.Prelude.{◌≡◌, Bool, true, false, IsFalse, []}
 use Rattle.k_types.specs.declared.op.Op.{Op}
 use Rattle.k_types.specs.declared.op.Op.TheVariants.{Collect, Exit, KCollect}
 use Rattle.k_types.specs.Trace.{Trace}
-use Rattle.k_heap.specs.Heaps.{HeapRecord}
+use Rattle.k_process.specs.k_heap.Heaps.{HeapRecord}
 use Rattle.k_moves.specs.Shown.{idle_part}
 use Rattle.k_squares.specs.Locals.{is_local_in}
 use Rattle.k_process.specs.Standing.{ComesNext}

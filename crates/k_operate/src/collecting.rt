@@ -10,9 +10,8 @@ ghost use Rattle.k_process.specs.Worlds.{WorldValue};
 ghost use Rattle.k_types.specs.declared.names.CellPhase.TheVariants.{Begun, Marked};
 ghost use Rattle.k_types.specs.declared.op.Op.TheVariants.{Collect};
 
-use k_book::Book;
 use k_mark::Swept;
-use k_process::{KernelCell, Process};
+use k_process::{Book, KernelCell, Process};
 use k_steps::{
     begin_heap, begin_kernel, end_swept_heap, end_swept_kernel, mark_heap, mark_kernel, sweep_heap,
     sweep_kernel,

@@ -6,8 +6,7 @@ ghost use Rattle.k_process.specs.Worlds.{WorldValue};
 ghost use Rattle.k_types.specs.declared.op.Op.TheVariants.{Exit};
 
 use crate::known::{know_exits, know_kernel_exits};
-use k_book::Book;
-use k_process::{KernelCell, Process};
+use k_process::{Book, KernelCell, Process};
 use k_steps::exit;
 
 /// Does the operation `exit`: the process ends, and the objects of its heap are the kernel's. The cost is in proportion to the exit

@@ -5,8 +5,7 @@ ghost use Rattle.k_process.specs.Worlds.{WorldValue};
 
 use crate::known::{know_exits, know_kernel_exits};
 use crate::stepping::{do_alone, publish_all};
-use k_book::Book;
-use k_process::{KernelCell, Process};
+use k_process::{Book, KernelCell, Process};
 use k_steps::{Reach, kill, reach};
 use k_types::Op;
 

@@ -1,11 +1,9 @@
 //! What the tables of cells and of the book keep, told where a step asks for it.
 ghost use Rattle.k_base.specs.Distinct.{AreDistinctNames};
-ghost use Rattle.k_book.specs.Books.{book_entries};
+ghost use Rattle.k_process.specs.k_book.Books.{book_entries};
 ghost use Rattle.k_entry.specs.Entries.{AreEntries};
 
-use k_book::Book;
-use k_heap::HeapCell;
-use k_process::{KernelCell, SharedCell};
+use k_process::{Book, HeapCell, KernelCell, SharedCell};
 use k_types::Heap;
 
 /// Tells that no exit item of the process stands twice.

@@ -21,8 +21,10 @@ pub use collecting::{
     mark_collection, mark_kernel_collection, sweep_collection, sweep_kernel_collection,
 };
 pub use exiting::do_exit;
+pub use k_process::{Heaps, Process, local, next};
 pub use k_steps::{
-    Reach, absorb, begin_heap, begin_kernel, close_kernel, end_heap, end_kernel, exit, kill,
+    Reach, absorb, begin_heap, begin_kernel, close_kernel, end_heap, end_heap_listing, end_kernel,
+    end_kernel_listing, exit, kill, mark_heap, mark_kernel, meet_heap, meet_kernel, meet_shared,
     publish, reach, settle_heap, settle_kernel, step_kernel, step_own, step_shared,
 };
 pub use killing::do_kill;

@@ -7,9 +7,7 @@ use crate::absorbing::do_collect_kernel;
 use crate::collecting::do_collect;
 use crate::exiting::do_exit;
 use crate::known::{know_entries, know_exits, know_kernel_exits, know_shared_exits};
-use k_book::Book;
-use k_local::local;
-use k_process::{KernelCell, Process, SharedCell};
+use k_process::{Book, KernelCell, Process, SharedCell, local};
 use k_steps::{Reach, publish, reach, step_kernel, step_own, step_shared};
 use k_types::Op;
 

@@ -7,3 +7,5 @@ pub mod Filled
 pub mod Told
 pub mod Charged
 pub mod Walked
+pub use Rattle.k_process.proofs.Looped
+pub use Rattle.k_process.proofs.Written

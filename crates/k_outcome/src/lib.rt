@@ -15,6 +15,7 @@ mod rooms;
 mod viewing;
 mod walking;
 
+pub use k_process::{Heaps, Process, next};
 pub use laws::the_report_is_that_of_the_trace;
 pub use outcome::{Outcome, outcome_of};
 pub use rooms::ReportRooms;

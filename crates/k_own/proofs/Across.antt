@@ -21,10 +21,10 @@ use Rattle.k_base.proofs.NameTests.{heap_eq_refl}
 use Rattle.k_changes.specs.BookChanges.{owner_in, with_entry, with_pin_moved}
 use Rattle.k_changes.specs.CellChanges.{with_exit_to}
 use Rattle.k_frame.specs.PartUpdates.{held_in, with_done, with_register, with_written}
-use Rattle.k_moves.specs.Moves.{GivesAlone}
-use Rattle.k_moves.specs.Shown.{part_alone}
-use Rattle.k_moves.proofs.Given.{own_store, own_store_refused}
-use Rattle.k_moves.proofs.Stored.{an_exit}
+use Rattle.k_commit.specs.k_moves.Moves.{GivesAlone}
+use Rattle.k_commit.specs.k_moves.Shown.{part_alone}
+use Rattle.k_commit.proofs.Given.{own_store, own_store_refused}
+use Rattle.k_commit.proofs.Stored.{an_exit}
 use Rattle.k_squares.specs.Answers.{access_faults_in, answer_in, faults_in, field_count_in, field_in, load_faults_in, passes_barrier_in, reference_from_in, reply_in, store_faults_in}
 use Rattle.k_squares.specs.BookAfter.{book_after, book_operated}
 use Rattle.k_squares.specs.CellAfter.{cell_after, cells_operated, with_exit_for}

@@ -20,17 +20,17 @@ use Rattle.k_types.specs.Replies.{is_ref, reference}
 use Rattle.k_types.specs.State.{Content, Holds, Refers}
 use Rattle.k_types.specs.Steps.{in_range, state_after}
 use Rattle.k_base.proofs.NameTests.{heap_eq-true}
-use Rattle.k_book.specs.Books.{BookRecord}
-use Rattle.k_cell.specs.Changes.{with_exit_item, with_field}
-use Rattle.k_cell.specs.Looks.{field_among}
+use Rattle.k_commit.specs.k_book.Books.{BookRecord}
+use Rattle.k_commit.specs.k_cell.Changes.{with_exit_item, with_field}
+use Rattle.k_commit.specs.k_cell.Looks.{field_among}
 use Rattle.k_changes.specs.BookChanges.{owner_in, with_entry}
 use Rattle.k_changes.specs.CellChanges.{with_exit_to}
 use Rattle.k_entry.specs.Entries.{home_of}
 use Rattle.k_frame.specs.PartUpdates.{held_in, with_done, with_written}
-use Rattle.k_heap.specs.Heaps.{HeapRecord}
-use Rattle.k_moves.specs.Moves.{GivesAlone}
-use Rattle.k_moves.specs.Shown.{idle_part}
-use Rattle.k_moves.proofs.Changed.{exit_shown}
+use Rattle.k_commit.specs.k_heap.Heaps.{HeapRecord}
+use Rattle.k_commit.specs.k_moves.Moves.{GivesAlone}
+use Rattle.k_commit.specs.k_moves.Shown.{idle_part}
+use Rattle.k_commit.proofs.Changed.{exit_shown}
 use Rattle.k_squares.specs.Answers.{field_in}
 use Rattle.k_squares.specs.Locals.{is_local_in, is_local_load_in, is_local_store_in}
 use Rattle.k_squares.specs.Touches.{other_cells_in}

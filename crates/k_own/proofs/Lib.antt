@@ -5,4 +5,4 @@ pub mod Crossing
 pub mod Allocated
 pub mod Below
 pub use Rattle.k_commit.proofs.Placed
-pub use Rattle.k_moves.proofs.Idle
+pub use Rattle.k_commit.proofs.Idle

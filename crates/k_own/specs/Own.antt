@@ -5,9 +5,9 @@ use Rattle.k_types.specs.declared.op.Op.TheVariants.{Collect}
 use Rattle.k_types.specs.Agree.{book_shown_by}
 use Rattle.k_types.specs.Trace.{Trace}
 use Rattle.k_agree.specs.Meeting.{Fits}
-use Rattle.k_book.specs.Books.{BookRecord}
-use Rattle.k_heap.specs.Heaps.{HeapRecord, holdings_of, own_segment}
-use Rattle.k_moves.specs.Shown.{idle_part}
+use Rattle.k_commit.specs.k_book.Books.{BookRecord}
+use Rattle.k_commit.specs.k_heap.Heaps.{HeapRecord, holdings_of, own_segment}
+use Rattle.k_commit.specs.k_moves.Shown.{idle_part}
 use Rattle.k_squares.specs.Locals.{is_local_in}
 use Rattle.k_squares.specs.Touches.{other_cells_in}
 use Rattle.k_commit.specs.Changed.{MayCommit}

@@ -1,8 +1,8 @@
 //! Accesses to fields: stores and loads of references that leave the process's heap, and accesses that are refused for the owner of
 //! the object.
 ghost use Rattle.std.specs.Prelude.{◌≡◌, ◌<◌, ◌+◌, ◌-◌, ◌==◌, ◌^◌, false, not, IsTrue, Some, is_some, length, option_map};
-ghost use Rattle.k_cell.specs.Changes.{with_exit_item, with_field};
-ghost use Rattle.k_cell.specs.Looks.{field_among};
+ghost use Rattle.k_commit.specs.k_cell.Changes.{with_exit_item, with_field};
+ghost use Rattle.k_commit.specs.k_cell.Looks.{field_among};
 ghost use Rattle.k_changes.specs.BookChanges.{with_entry};
 ghost use Rattle.k_commit.specs.Met.{Before};
 ghost use Rattle.k_commit.specs.Stepped.{HasStepped};
@@ -20,9 +20,7 @@ ghost use Rattle.k_types.specs.declared.names.CellPhase.TheVariants.{Idle};
 ghost use Rattle.k_types.specs.declared.names.Kind.TheVariants.{User};
 ghost use Rattle.k_types.specs.declared.op.Op.TheVariants.{Load, Store};
 
-use k_book::Book;
-use k_commit::{commit_heap, set_register};
-use k_heap::HeapCell;
+use k_commit::{Book, HeapCell, commit_heap, set_register};
 use k_space::Stored;
 use k_types::{Event, Fault, Heap, Link, Name, Op, Pid, Reg, Reply, Seg};
 

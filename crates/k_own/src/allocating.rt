@@ -4,9 +4,7 @@ ghost use Rattle.k_commit.specs.Stepped.{HasStepped};
 ghost use Rattle.k_own.specs.Own.{IsDue};
 ghost use Rattle.k_types.specs.declared.op.Op.TheVariants.{New};
 
-use k_book::Book;
-use k_commit::{charge_process, commit_heap, set_register};
-use k_heap::HeapCell;
+use k_commit::{Book, HeapCell, charge_process, commit_heap, set_register};
 use k_types::{Event, Fault, Op, Reg, Reply, TypeId};
 
 /// `new`: the register refers to a new object of the type, whose size is charged to the process; or the size does not fit.

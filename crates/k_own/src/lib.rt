@@ -11,7 +11,5 @@ mod limits;
 mod registers;
 mod stepping;
 
-pub use k_book::Book;
-pub use k_commit::{is_above, publish};
-pub use k_heap::HeapCell;
+pub use k_commit::{Book, HeapCell, is_above, publish};
 pub use stepping::step_own;

@@ -4,9 +4,7 @@ ghost use Rattle.k_commit.specs.Stepped.{HasStepped};
 ghost use Rattle.k_own.specs.Own.{IsDue};
 ghost use Rattle.k_types.specs.declared.op.Op.TheVariants.{Kill, Resize};
 
-use k_book::Book;
-use k_commit::{commit_heap, is_above, resize_limit};
-use k_heap::HeapCell;
+use k_commit::{Book, HeapCell, commit_heap, is_above, resize_limit};
 use k_types::{Event, Fault, LimitId, Op, Pid, Reply};
 
 /// `kill` of a process that has ended already, which changes nothing, or whose limit is not below the process's, which is refused.

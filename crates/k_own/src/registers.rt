@@ -4,9 +4,7 @@ ghost use Rattle.k_commit.specs.Stepped.{HasStepped};
 ghost use Rattle.k_own.specs.Own.{IsDue};
 ghost use Rattle.k_types.specs.declared.op.Op.TheVariants.{Clear, Dir, Move};
 
-use k_book::Book;
-use k_commit::{commit_heap, set_register};
-use k_heap::HeapCell;
+use k_commit::{Book, HeapCell, commit_heap, set_register};
 use k_types::{Event, Name, Op, Reg, Reply, Seg, Serial};
 
 /// `move`: the register holds what the other one holds.

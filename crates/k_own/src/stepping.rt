@@ -8,9 +8,7 @@ use crate::accesses::{load, refuse, store};
 use crate::allocating::new;
 use crate::limits::{resize, spare};
 use crate::registers::{clear, dir, move_reference};
-use k_book::Book;
-use k_commit::meet_heap;
-use k_heap::HeapCell;
+use k_commit::{Book, HeapCell, meet_heap};
 use k_types::{Event, Op};
 
 /// Does the operation of the process, which touches its own cell alone and is not done inside its heap, and answers the event.

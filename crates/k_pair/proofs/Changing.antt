@@ -16,12 +16,12 @@ use Rattle.k_types.specs.Trace.{Trace}
 use Rattle.k_space.specs.Objects.{BodyValue}
 use Rattle.k_frame.specs.PartUpdates.{with_done}
 use Rattle.k_squares.specs.Answers.{faults_in}
-use Rattle.k_moves.specs.Moves.{GivesBoth, KeepsOwners}
-use Rattle.k_moves.specs.Shown.{idle_part, two_parts}
-use Rattle.k_moves.proofs.Beside.{refused_beside}
-use Rattle.k_book.specs.Books.{BookRecord}
-use Rattle.k_heap.specs.Heaps.{HeapRecord}
-use Rattle.k_shared.specs.SharedHeaps.{SharedRecord}
+use Rattle.k_commit.specs.k_moves.Moves.{GivesBoth, KeepsOwners}
+use Rattle.k_commit.specs.k_moves.Shown.{idle_part, two_parts}
+use Rattle.k_commit.proofs.Beside.{refused_beside}
+use Rattle.k_commit.specs.k_book.Books.{BookRecord}
+use Rattle.k_commit.specs.k_heap.Heaps.{HeapRecord}
+use Rattle.k_commit.specs.k_shared.SharedHeaps.{SharedRecord}
 use Rattle.k_commit.specs.Changed.{HasChangedWith, bodies_after}
 use Rattle.k_commit.specs.Met.{BeforeWith}
 use Rattle.k_commit.specs.Others.{OtherValue, with_value}

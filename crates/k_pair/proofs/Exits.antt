@@ -4,15 +4,15 @@ use Rattle.k_types.specs.declared.names.Heap.{Heap}
 use Rattle.k_types.specs.declared.names.Name.{Name}
 use Rattle.k_types.specs.Agree.{book_shown_by}
 use Rattle.k_types.specs.Names.{heap_eq, name_among}
-use Rattle.k_book.specs.Books.{BookRecord, book_entries}
-use Rattle.k_book.specs.Calls.{ChangesEntries}
-use Rattle.k_book.proofs.OnPart.{entered_on}
-use Rattle.k_cell.specs.Changes.{with_exit_item}
+use Rattle.k_commit.specs.k_book.Books.{BookRecord, book_entries}
+use Rattle.k_commit.specs.k_book.Calls.{ChangesEntries}
+use Rattle.k_commit.proofs.OnPart.{entered_on}
+use Rattle.k_commit.specs.k_cell.Changes.{with_exit_item}
 use Rattle.k_entry.specs.Entries.{HasMore}
 use Rattle.k_squares.specs.CellAfter.{with_exit_for}
-use Rattle.k_moves.specs.Shown.{idle_part}
-use Rattle.k_moves.proofs.Changed.{exit_shown}
-use Rattle.k_moves.proofs.Stored.{an_exit, entered, entered_already, inside, no_exit}
+use Rattle.k_commit.specs.k_moves.Shown.{idle_part}
+use Rattle.k_commit.proofs.Changed.{exit_shown}
+use Rattle.k_commit.proofs.Stored.{an_exit, entered, entered_already, inside, no_exit}
 use Rattle.k_commit.specs.Others.{OtherValue, with_value}
 use Rattle.k_pair.specs.Remembered.{HasRemembered}
 

@@ -16,10 +16,10 @@ use Rattle.k_base.proofs.NameTests.{heap_eq-same}
 use Rattle.k_frame.proofs.OwnerOf.{owner_shared}
 use Rattle.k_laws.proofs.SoundEffects.{is_unmade_so}
 use Rattle.k_laws.proofs.SoundSteps.{legal_sound}
-use Rattle.k_book.specs.Books.{BookRecord}
+use Rattle.k_commit.specs.k_book.Books.{BookRecord}
 use Rattle.k_squares.proofs.CellSquares.{populating_phase}
-use Rattle.k_heap.specs.Heaps.{HeapRecord}
-use Rattle.k_shared.specs.SharedHeaps.{SharedRecord}
+use Rattle.k_commit.specs.k_heap.Heaps.{HeapRecord}
+use Rattle.k_commit.specs.k_shared.SharedHeaps.{SharedRecord}
 use Rattle.k_commit.specs.Met.{HaveMetWith}
 use Rattle.k_commit.specs.Others.{of_shared}
 use Rattle.k_commit.specs.Standing.{BookStands}

@@ -19,13 +19,13 @@ use Rattle.k_types.specs.Trace.{Trace, segment_count}
 use Rattle.k_changes.specs.BookChanges.{owner_in}
 use Rattle.k_entry.specs.Entries.{home_of}
 use Rattle.k_frame.specs.PartUpdates.{held_in, with_done}
-use Rattle.k_moves.specs.Moves.{GivesBoth}
-use Rattle.k_moves.specs.Shown.{idle_part}
-use Rattle.k_moves.proofs.Idle.{owners_by_absorbed}
+use Rattle.k_commit.specs.k_moves.Moves.{GivesBoth}
+use Rattle.k_commit.specs.k_moves.Shown.{idle_part}
+use Rattle.k_commit.proofs.Idle.{owners_by_absorbed}
 use Rattle.k_squares.proofs.CellSquares.{populating_phase}
-use Rattle.k_book.specs.Books.{BookRecord}
-use Rattle.k_heap.specs.Heaps.{HeapRecord}
-use Rattle.k_shared.specs.SharedHeaps.{SharedRecord, with_phase}
+use Rattle.k_commit.specs.k_book.Books.{BookRecord}
+use Rattle.k_commit.specs.k_heap.Heaps.{HeapRecord}
+use Rattle.k_commit.specs.k_shared.SharedHeaps.{SharedRecord, with_phase}
 use Rattle.k_shares.specs.Sharers.{bytes_in_phase}
 use Rattle.k_laws.proofs.SoundShare.{absorbed_kept}
 use Rattle.k_commit.specs.Changed.{HasChangedWith}

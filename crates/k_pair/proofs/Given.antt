@@ -25,9 +25,9 @@ use Rattle.k_squares.specs.Answers.{answer_in, faults_in, freeze_faults_in, repl
 use Rattle.k_squares.specs.BookAfter.{book_after, book_attached, book_frozen, book_operated}
 use Rattle.k_squares.specs.CellAfter.{at_cell, cell_after, cells_frozen, cells_operated, register_in}
 use Rattle.k_squares.specs.Touches.{other_cells_in}
-use Rattle.k_moves.specs.Moves.{GivesBoth}
-use Rattle.k_moves.specs.Shown.{two_parts}
-use Rattle.k_moves.proofs.Beside.{held_own, not_refused_beside, own_changed, own_counted, own_set, second_changed, second_counted, second_kept}
+use Rattle.k_commit.specs.k_moves.Moves.{GivesBoth}
+use Rattle.k_commit.specs.k_moves.Shown.{two_parts}
+use Rattle.k_commit.proofs.Beside.{held_own, not_refused_beside, own_changed, own_counted, own_set, second_changed, second_counted, second_kept}
 
 module _ (trace : Trace) (b : BookPart) (v u : CellPart) (pid : Pid) (s : SharedId) where
   abbrev both : Cell → CellPart

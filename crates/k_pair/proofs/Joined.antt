@@ -21,14 +21,14 @@ use Rattle.k_changes.specs.BookChanges.{owner_in, with_charge, with_pin_moved, w
 use Rattle.k_frame.specs.PartUpdates.{held_in, with_done, with_register}
 use Rattle.k_squares.specs.Answers.{size_fault_in}
 use Rattle.k_squares.specs.BookAfter.{book_attached}
-use Rattle.k_moves.specs.Moves.{GivesBoth}
-use Rattle.k_moves.specs.Shown.{idle_part}
+use Rattle.k_commit.specs.k_moves.Moves.{GivesBoth}
+use Rattle.k_commit.specs.k_moves.Shown.{idle_part}
 use Rattle.k_shares.specs.Sharers.{GainsShare}
-use Rattle.k_book.specs.Books.{BookRecord}
-use Rattle.k_book.specs.Calls.{ChangesShares}
-use Rattle.k_book.proofs.OnPart.{shared_on}
-use Rattle.k_heap.specs.Heaps.{HeapRecord, with_register_in}
-use Rattle.k_shared.specs.SharedHeaps.{SharedRecord}
+use Rattle.k_commit.specs.k_book.Books.{BookRecord}
+use Rattle.k_commit.specs.k_book.Calls.{ChangesShares}
+use Rattle.k_commit.proofs.OnPart.{shared_on}
+use Rattle.k_commit.specs.k_heap.Heaps.{HeapRecord, with_register_in}
+use Rattle.k_commit.specs.k_shared.SharedHeaps.{SharedRecord}
 use Rattle.k_commit.specs.Changed.{CanSetRegister, HasChangedWith, HasSetRegister}
 use Rattle.k_commit.specs.Charging.{HasCharged, IsFullFor}
 use Rattle.k_commit.specs.Met.{Before, BeforeWith}

@@ -15,12 +15,12 @@ use Rattle.k_types.specs.Steps.{state_after}
 use Rattle.k_types.specs.Trace.{Trace}
 use Rattle.k_changes.specs.BookChanges.{owner_in, with_pin_moved}
 use Rattle.k_frame.specs.PartUpdates.{held_in, with_done, with_register}
-use Rattle.k_moves.specs.Moves.{GivesBoth}
-use Rattle.k_moves.specs.Shown.{idle_part}
-use Rattle.k_moves.proofs.Beside.{load_refused_beside, loaded_beside}
-use Rattle.k_book.specs.Books.{BookRecord}
-use Rattle.k_cell.specs.Looks.{field_among, field_count_among}
-use Rattle.k_heap.specs.Heaps.{HeapRecord, with_register_in}
+use Rattle.k_commit.specs.k_moves.Moves.{GivesBoth}
+use Rattle.k_commit.specs.k_moves.Shown.{idle_part}
+use Rattle.k_commit.proofs.Beside.{load_refused_beside, loaded_beside}
+use Rattle.k_commit.specs.k_book.Books.{BookRecord}
+use Rattle.k_commit.specs.k_cell.Looks.{field_among, field_count_among}
+use Rattle.k_commit.specs.k_heap.Heaps.{HeapRecord, with_register_in}
 use Rattle.k_commit.specs.Changed.{CanSetRegister, HasChangedWith, HasSetRegister}
 use Rattle.k_commit.specs.Met.{BeforeWith}
 use Rattle.k_commit.specs.Others.{OtherValue}

@@ -29,14 +29,14 @@ use Rattle.k_squares.specs.Answers.{answer_in, faults_in, reply_in}
 use Rattle.k_squares.specs.BookAfter.{book_after, book_operated}
 use Rattle.k_squares.specs.CellAfter.{cell_after, cells_operated}
 use Rattle.k_squares.specs.Touches.{other_cells_in}
-use Rattle.k_moves.specs.Moves.{GivesBoth}
-use Rattle.k_moves.specs.Shown.{idle_part, two_parts}
-use Rattle.k_moves.proofs.Beside.{held_own, own_changed, refused_beside, second_changed}
-use Rattle.k_moves.proofs.Changed.{new_shown}
-use Rattle.k_book.specs.Books.{BookRecord}
-use Rattle.k_cell.specs.Changes.{next_in, with_body}
-use Rattle.k_cell.specs.Holdings.{HasObjectRoom, HoldingsValue}
-use Rattle.k_heap.specs.Heaps.{HeapRecord, with_register_in}
+use Rattle.k_commit.specs.k_moves.Moves.{GivesBoth}
+use Rattle.k_commit.specs.k_moves.Shown.{idle_part, two_parts}
+use Rattle.k_commit.proofs.Beside.{held_own, own_changed, refused_beside, second_changed}
+use Rattle.k_commit.proofs.Changed.{new_shown}
+use Rattle.k_commit.specs.k_book.Books.{BookRecord}
+use Rattle.k_commit.specs.k_cell.Changes.{next_in, with_body}
+use Rattle.k_commit.specs.k_cell.Holdings.{HasObjectRoom, HoldingsValue}
+use Rattle.k_commit.specs.k_heap.Heaps.{HeapRecord, with_register_in}
 use Rattle.k_commit.specs.Changed.{CanSetRegister, HasChangedWith, HasSetRegister}
 use Rattle.k_commit.specs.Met.{BeforeWith}
 use Rattle.k_commit.specs.Others.{of_kernel, with_value}

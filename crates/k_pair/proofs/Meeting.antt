@@ -4,8 +4,8 @@ use Rattle.k_types.specs.declared.names.Heap.TheVariants.{User}
 use Rattle.k_types.specs.declared.op.Op.{Op}
 use Rattle.k_types.specs.Trace.{Trace}
 use Rattle.k_agree.specs.Meeting.{Fits, met_note}
-use Rattle.k_book.specs.Books.{BookRecord}
-use Rattle.k_heap.specs.Heaps.{HeapRecord}
+use Rattle.k_commit.specs.k_book.Books.{BookRecord}
+use Rattle.k_commit.specs.k_heap.Heaps.{HeapRecord}
 use Rattle.k_commit.specs.Met.{CanMeet, HeapHasMet, OtherHasMet}
 use Rattle.k_commit.specs.Others.{OtherValue, with_note}
 use Rattle.k_commit.specs.Rooms.{HasRoomFor}

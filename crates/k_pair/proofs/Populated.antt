@@ -19,15 +19,15 @@ use Rattle.k_laws.proofs.SoundEffects.{is_unmade_so}
 use Rattle.k_changes.specs.BookChanges.{with_phase as book_with_phase, with_share}
 use Rattle.k_changes.specs.CellChanges.{in_phase}
 use Rattle.k_frame.specs.PartUpdates.{with_done}
-use Rattle.k_moves.specs.Moves.{GivesBoth}
-use Rattle.k_moves.specs.Shown.{idle_part}
-use Rattle.k_moves.proofs.Idle.{owners_by_absorbed}
+use Rattle.k_commit.specs.k_moves.Moves.{GivesBoth}
+use Rattle.k_commit.specs.k_moves.Shown.{idle_part}
+use Rattle.k_commit.proofs.Idle.{owners_by_absorbed}
 use Rattle.k_shares.specs.Sharers.{GainsShare, bytes_in_phase}
-use Rattle.k_book.specs.Books.{BookRecord}
-use Rattle.k_book.specs.Calls.{ChangesShares}
-use Rattle.k_book.proofs.OnPart.{shared_on}
-use Rattle.k_heap.specs.Heaps.{HeapRecord}
-use Rattle.k_shared.specs.SharedHeaps.{SharedRecord, with_phase}
+use Rattle.k_commit.specs.k_book.Books.{BookRecord}
+use Rattle.k_commit.specs.k_book.Calls.{ChangesShares}
+use Rattle.k_commit.proofs.OnPart.{shared_on}
+use Rattle.k_commit.specs.k_heap.Heaps.{HeapRecord}
+use Rattle.k_commit.specs.k_shared.SharedHeaps.{SharedRecord, with_phase}
 use Rattle.k_laws.proofs.SoundShare.{absorbed_kept}
 use Rattle.k_commit.specs.Changed.{HasChangedWith}
 use Rattle.k_commit.specs.Met.{BeforeWith}

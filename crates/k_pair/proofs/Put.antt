@@ -10,12 +10,12 @@ use Rattle.k_types.specs.Replies.{first_fault, is_ref, number_in}
 use Rattle.k_types.specs.State.{Holds}
 use Rattle.k_types.specs.Trace.{Trace}
 use Rattle.k_frame.specs.PartUpdates.{held_in}
-use Rattle.k_moves.specs.Shown.{idle_part}
-use Rattle.k_moves.proofs.Beside.{get_beside, get_refused_beside, put_beside, put_refused_beside}
-use Rattle.k_book.specs.Books.{BookRecord}
-use Rattle.k_cell.specs.Changes.{with_field}
-use Rattle.k_cell.specs.Looks.{field_among, field_count_among}
-use Rattle.k_heap.specs.Heaps.{HeapRecord}
+use Rattle.k_commit.specs.k_moves.Shown.{idle_part}
+use Rattle.k_commit.proofs.Beside.{get_beside, get_refused_beside, put_beside, put_refused_beside}
+use Rattle.k_commit.specs.k_book.Books.{BookRecord}
+use Rattle.k_commit.specs.k_cell.Changes.{with_field}
+use Rattle.k_commit.specs.k_cell.Looks.{field_among, field_count_among}
+use Rattle.k_commit.specs.k_heap.Heaps.{HeapRecord}
 use Rattle.k_commit.specs.Changed.{HasChangedWith}
 use Rattle.k_commit.specs.Met.{BeforeWith}
 use Rattle.k_commit.specs.Others.{OtherValue, with_value}

@@ -17,13 +17,13 @@ use Rattle.k_changes.specs.BookChanges.{owner_in}
 use Rattle.k_frame.specs.PartUpdates.{held_in, with_done, with_written}
 use Rattle.k_squares.specs.BookAfter.{book_stored}
 use Rattle.k_squares.specs.CellAfter.{with_exit_for}
-use Rattle.k_moves.specs.Moves.{GivesBoth}
-use Rattle.k_moves.specs.Shown.{idle_part, part_alone}
-use Rattle.k_moves.proofs.Beside.{store_refused_beside, stored_beside}
-use Rattle.k_book.specs.Books.{BookRecord}
-use Rattle.k_cell.specs.Changes.{with_field}
-use Rattle.k_cell.specs.Looks.{field_among}
-use Rattle.k_heap.specs.Heaps.{HeapRecord}
+use Rattle.k_commit.specs.k_moves.Moves.{GivesBoth}
+use Rattle.k_commit.specs.k_moves.Shown.{idle_part, part_alone}
+use Rattle.k_commit.proofs.Beside.{store_refused_beside, stored_beside}
+use Rattle.k_commit.specs.k_book.Books.{BookRecord}
+use Rattle.k_commit.specs.k_cell.Changes.{with_field}
+use Rattle.k_commit.specs.k_cell.Looks.{field_among}
+use Rattle.k_commit.specs.k_heap.Heaps.{HeapRecord}
 use Rattle.k_commit.specs.Changed.{HasChangedWith}
 use Rattle.k_commit.specs.Met.{Before, BeforeWith}
 use Rattle.k_commit.specs.Others.{OtherValue, with_value}

@@ -18,9 +18,9 @@ use Rattle.k_types.specs.Trace.{Trace}
 use Rattle.k_changes.specs.BookChanges.{owner_in}
 use Rattle.k_frame.specs.PartUpdates.{held_in}
 use Rattle.k_squares.specs.Touches.{access_cell_in, base_cell_in, ends_other_in, other_cells_in}
-use Rattle.k_book.specs.Books.{BookRecord}
-use Rattle.k_heap.specs.Heaps.{HeapRecord}
-use Rattle.k_moves.proofs.Killing.{never_one}
+use Rattle.k_commit.specs.k_book.Books.{BookRecord}
+use Rattle.k_commit.specs.k_heap.Heaps.{HeapRecord}
+use Rattle.k_commit.proofs.Killing.{never_one}
 use Rattle.k_pair.specs.Operating.{TouchesOther, collects_or_exits}
 
 -- the first of the cells, or else that one

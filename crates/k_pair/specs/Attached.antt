@@ -5,7 +5,7 @@ use Rattle.k_types.specs.declared.names.LimitId.{LimitId}
 use Rattle.k_types.specs.Agree.{book_shown_by}
 use Rattle.k_types.specs.State.{has_share}
 use Rattle.k_types.specs.Trace.{Trace}
-use Rattle.k_book.specs.Books.{BookRecord}
+use Rattle.k_commit.specs.k_book.Books.{BookRecord}
 use Rattle.k_squares.specs.Answers.{size_fault_in}
 use Rattle.k_squares.specs.BookAfter.{book_attached}
 use Rattle.k_commit.specs.Charging.{CanCharge}

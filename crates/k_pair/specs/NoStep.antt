@@ -1,7 +1,7 @@
 -- The cells and the book of no step.
 use Rattle.std.specs.Prelude.{false, []}
 use Rattle.k_tie.specs.Values.{NoteValue, blank_note, empty_journal, no_table}
-use Rattle.k_cell.specs.Holdings.{fresh_cell}
+use Rattle.k_commit.specs.k_cell.Holdings.{fresh_cell}
 use Rattle.k_commit.specs.Met.{BeforeWith}
 use Rattle.k_commit.specs.Others.{of_kernel}
 

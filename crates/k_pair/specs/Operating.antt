@@ -8,11 +8,11 @@ use Rattle.k_types.specs.Steps.{in_range}
 use Rattle.k_types.specs.Trace.{Trace}
 use Rattle.k_agree.specs.Meeting.{Fits}
 use Rattle.k_squares.specs.Touches.{other_cells_in}
-use Rattle.k_book.specs.Books.{BookRecord}
-use Rattle.k_cell.specs.Holdings.{HoldingsValue}
-use Rattle.k_heap.specs.Heaps.{HeapRecord}
-use Rattle.k_shared.specs.SharedHeaps.{SharedRecord}
-use Rattle.k_moves.specs.Shown.{idle_part}
+use Rattle.k_commit.specs.k_book.Books.{BookRecord}
+use Rattle.k_commit.specs.k_cell.Holdings.{HoldingsValue}
+use Rattle.k_commit.specs.k_heap.Heaps.{HeapRecord}
+use Rattle.k_commit.specs.k_shared.SharedHeaps.{SharedRecord}
+use Rattle.k_commit.specs.k_moves.Shown.{idle_part}
 use Rattle.k_commit.specs.Met.{BeforeWith, HaveMetWith}
 use Rattle.k_commit.specs.Others.{OtherValue, of_kernel, of_shared}
 use Rattle.k_commit.specs.Rooms.{CanOperateWith, HasRoomFor}

@@ -5,10 +5,10 @@ use Rattle.k_types.specs.declared.names.Heap.{Heap}
 use Rattle.k_types.specs.declared.names.Name.{Name}
 use Rattle.k_types.specs.Agree.{book_shown_by}
 use Rattle.k_types.specs.Counted.{counted}
-use Rattle.k_book.specs.Books.{BookRecord}
+use Rattle.k_commit.specs.k_book.Books.{BookRecord}
 use Rattle.k_changes.specs.BookChanges.{owner_in}
 use Rattle.k_entry.specs.Entries.{home_of}
-use Rattle.k_moves.specs.Shown.{idle_part, part_alone}
+use Rattle.k_commit.specs.k_moves.Shown.{idle_part, part_alone}
 use Rattle.k_squares.specs.BookAfter.{book_stored}
 use Rattle.k_squares.specs.CellAfter.{with_exit_for}
 use Rattle.k_commit.specs.Met.{BeforeWith}

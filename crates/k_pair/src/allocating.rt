@@ -11,10 +11,7 @@ ghost use Rattle.k_types.specs.declared.op.Op.TheVariants.{KNew, SNew};
 use crate::committing::commit;
 use crate::names::StepName;
 use crate::phases::is_populating;
-use k_book::Book;
-use k_commit::{KernelCell, charge_process, set_register};
-use k_heap::HeapCell;
-use k_shared::SharedCell;
+use k_commit::{Book, HeapCell, KernelCell, SharedCell, charge_process, set_register};
 use k_space::Body;
 use k_types::{Event, Fault, Op, Reg, Reply, SharedId, TypeId};
 

@@ -10,10 +10,7 @@ ghost use Rattle.k_types.specs.declared.op.Op.TheVariants.{Attach};
 use crate::committing::commit;
 use crate::names::StepName;
 use crate::phases::frozen_root;
-use k_book::Book;
-use k_commit::{charge_process, set_register};
-use k_heap::HeapCell;
-use k_shared::SharedCell;
+use k_commit::{Book, HeapCell, SharedCell, charge_process, set_register};
 use k_types::{Event, Fault, LimitId, Op, Pid, Reg, Reply, SharedId};
 
 /// The process shares the heap from now on, and is charged all its bytes, unless it does so already.

@@ -1,6 +1,6 @@
 //! Which stores into an object of another heap are refused.
 ghost use Rattle.std.specs.Prelude.{◌≡◌, ℕ, None, Some, IfErr, IfOk, IsTrue, option_map};
-ghost use Rattle.k_cell.specs.Looks.{field_among};
+ghost use Rattle.k_commit.specs.k_cell.Looks.{field_among};
 ghost use Rattle.k_pair.specs.Faults.{CanJudge, HasPhase, store_faults_of};
 ghost use Rattle.k_pair.specs.Remembered.{TellsOwner, owners_of};
 ghost use Rattle.k_squares.specs.Answers.{is_frozen_in, passes_barrier_in};
@@ -13,7 +13,7 @@ use crate::faults::read_reference;
 use crate::names::StepName;
 use crate::other::OtherCell;
 use crate::phases::{is_frozen, is_same};
-use k_book::Book;
+use k_commit::Book;
 use k_types::{Fault, Heap, Kind, Link, Name, legal};
 
 fn kind_of(heap: Heap) -> Kind

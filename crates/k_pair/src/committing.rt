@@ -4,8 +4,7 @@ ghost use Rattle.k_commit.specs.Changed.{HasChangedWith};
 
 use crate::names::StepName;
 use crate::other::OtherCell;
-use k_book::Book;
-use k_heap::HeapCell;
+use k_commit::{Book, HeapCell};
 use k_types::{Event, Op, Reply};
 
 /// Commits an operation that touches the other cell too, and answers its event. Constant time.

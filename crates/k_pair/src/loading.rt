@@ -10,9 +10,7 @@ use crate::committing::commit;
 use crate::faults::read_reference;
 use crate::names::StepName;
 use crate::other::OtherCell;
-use k_book::Book;
-use k_commit::set_register;
-use k_heap::HeapCell;
+use k_commit::{Book, HeapCell, set_register};
 use k_types::{Event, Link, Name, Op, Reg, Reply};
 
 /// The object that the register holds.

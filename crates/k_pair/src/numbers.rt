@@ -8,8 +8,7 @@ use crate::faults::read_number;
 use crate::loading::object_in;
 use crate::names::StepName;
 use crate::other::OtherCell;
-use k_book::Book;
-use k_heap::HeapCell;
+use k_commit::{Book, HeapCell};
 use k_types::{Event, Op, Reg, Reply};
 
 /// The operation `put`.

@@ -12,10 +12,7 @@ use crate::names::StepName;
 use crate::numbers::{get, put};
 use crate::sharing::{freeze, share};
 use crate::storing::store;
-use k_book::Book;
-use k_commit::{KernelCell, meet_heap, meet_kernel, meet_shared};
-use k_heap::HeapCell;
-use k_shared::SharedCell;
+use k_commit::{Book, HeapCell, KernelCell, SharedCell, meet_heap, meet_kernel, meet_shared};
 use k_types::{Event, Op};
 use std::marker::Brand;
 

@@ -1,8 +1,7 @@
 //! The cell that an operation touches beside the process's own: the kernel's, or that of a shared heap.
-use k_book::Book;
-use k_commit::{KernelCell, append_heap_and_kernel, append_heap_and_shared};
-use k_heap::HeapCell;
-use k_shared::SharedCell;
+use k_commit::{
+    Book, HeapCell, KernelCell, SharedCell, append_heap_and_kernel, append_heap_and_shared,
+};
 use k_space::Stored;
 use k_types::{Event, Heap, Link, Name};
 
@@ -16,8 +15,8 @@ pub(crate) trait OtherCell {
     ghost use Rattle.k_types.specs.declared.names.CellPhase.TheVariants.{Idle};
     ghost use Rattle.k_space.specs.Objects.{content_of};
     ghost use Rattle.k_agree.specs.Committing.{journal_after, note_after};
-    ghost use Rattle.k_cell.specs.Changes.{with_exit_item, with_field};
-    ghost use Rattle.k_cell.specs.Looks.{field_among, field_count_among};
+    ghost use Rattle.k_commit.specs.k_cell.Changes.{with_exit_item, with_field};
+    ghost use Rattle.k_commit.specs.k_cell.Looks.{field_among, field_count_among};
     ghost use Rattle.k_commit.specs.Others.{OtherValue, with_note, with_value};
 
     // What a step sees of the cell.

@@ -6,7 +6,7 @@ ghost use Rattle.k_types.specs.Replies.{is_frozen, is_populating, is_unmade};
 ghost use Rattle.k_types.specs.declared.names.Heap.TheVariants.{Shared};
 ghost use Rattle.k_types.specs.declared.names.Phase.TheVariants.{Frozen};
 
-use k_book::Book;
+use k_commit::Book;
 use k_types::{Heap, Name, Phase, Pid, Seg, SharedId};
 
 /// Whether nobody has made the heap yet.

@@ -6,7 +6,7 @@ ghost use Rattle.k_types.specs.Names.{name_of};
 use crate::names::StepName;
 use crate::other::OtherCell;
 use crate::phases::is_same;
-use k_book::Book;
+use k_commit::Book;
 use k_types::Link;
 
 /// An object of the other heap refers to that from now on: the heap has the exit item to an object of another heap than itself,

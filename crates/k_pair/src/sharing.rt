@@ -7,9 +7,7 @@ ghost use Rattle.k_types.specs.declared.op.Op.TheVariants.{Freeze, Share};
 use crate::committing::commit;
 use crate::names::StepName;
 use crate::phases::{is_owned_by, is_populating, is_unmade};
-use k_book::Book;
-use k_heap::HeapCell;
-use k_shared::SharedCell;
+use k_commit::{Book, HeapCell, SharedCell};
 use k_types::{Event, Fault, Op, Phase, Reg, Reply, SharedId};
 
 /// The operation `share`.

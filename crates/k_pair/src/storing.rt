@@ -9,8 +9,7 @@ use crate::loading::object_in;
 use crate::names::StepName;
 use crate::other::OtherCell;
 use crate::remembering::remember;
-use k_book::Book;
-use k_heap::HeapCell;
+use k_commit::{Book, HeapCell};
 use k_types::{Event, Op, Reg, Reply};
 
 /// The operation `store`.

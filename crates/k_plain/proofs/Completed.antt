@@ -8,7 +8,7 @@ use Rattle.k_types.specs.Names.{among}
 use Rattle.k_types.specs.State.{State}
 use Rattle.k_types.specs.Steps.{done_by, no_orphan, state_after}
 use Rattle.k_types.specs.Trace.{Trace, process_count}
-use Rattle.k_state.specs.Machines.{Machine, setup_of}
+use Rattle.k_scan.specs.k_state.Machines.{Machine, setup_of}
 
 -- each process has done its operations in order, and all of them while it lives
 abbrev pub HaveDone : Machine → List (List Op) → List Event → Type 0

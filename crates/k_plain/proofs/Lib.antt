@@ -6,3 +6,4 @@ pub mod Quiets
 pub mod Completed
 pub mod Owned
 pub mod Replied
+pub use Rattle.k_order.proofs.FileOrders

@@ -14,7 +14,7 @@ use Rattle.k_types.specs.Replies.{reply_to}
 use Rattle.k_types.specs.Effects.{step}
 use Rattle.k_types.specs.Steps.{IsPossible}
 use Rattle.k_laws.proofs.SoundSteps.{step_sound}
-use Rattle.k_state.specs.Machines.{Machine}
+use Rattle.k_scan.specs.k_state.Machines.{Machine}
 use Rattle.k_plain.specs.Sounds.{IsSoundMachine}
 
 moved_sound : (before after : Machine) (event : Event) → IsSoundMachine before → IsPossible before.setup before.state event → after.setup ≡ before.setup →

@@ -1,6 +1,6 @@
 //! Operations whose replies are known.
 ghost use Rattle.std.specs.Prelude.{◌≡◌, ◌<◌, IsTrue, OnErr, OnOk};
-ghost use Rattle.k_state.specs.Rooms.{HasRoom};
+ghost use Rattle.k_scan.specs.k_state.Rooms.{HasRoom};
 ghost use Rattle.k_types.specs.Effects.{effect_unless, step};
 ghost use Rattle.k_types.specs.Replies.{faults, first_fault, reply_to};
 ghost use Rattle.k_types.specs.Sound.{IsSound};
@@ -10,7 +10,7 @@ ghost use Rattle.k_types.specs.declared.event.Event.TheVariants.{Done};
 
 use crate::effects::take_effect;
 use k_io::NoMemory;
-use k_state::PlainLists;
+use k_scan::PlainLists;
 use k_types::{Op, Pid, Reply};
 use std::alloc::Global;
 

@@ -1,7 +1,7 @@
 //! Whether a history is complete.
 ghost use Rattle.std.specs.Prelude.{ℕ, ◌<◌, slice_index_or, ◌≡◌, ◌≤◌, ◌↔◌, ◌∷◌, ◌++◌, [], List, IfNone, IfSome, IsFalse, IsTrue, Some, length, map, option_copied, slice_get, take};
 ghost use Rattle.k_plain.specs.Histories.{one_operation};
-ghost use Rattle.k_state.specs.Machines.{setup_of};
+ghost use Rattle.k_scan.specs.k_state.Machines.{setup_of};
 ghost use Rattle.k_types.specs.Complete.{EndsWithClosing, IsComplete, IsPrefixOf, all_ended};
 ghost use Rattle.k_types.specs.Names.{among};
 ghost use Rattle.k_types.specs.Sound.{IsSound};
@@ -11,7 +11,7 @@ ghost use Rattle.k_types.specs.declared.op.Op.{Op};
 
 use crate::state::PlainState;
 use k_reply::{all_ended, no_orphan};
-use k_state::PlainLists;
+use k_scan::PlainLists;
 use k_types::{Event, Heap, Op, Pid};
 
 // The operation of the event, where it is one of the process.

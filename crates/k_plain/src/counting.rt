@@ -2,9 +2,9 @@
 ghost use Rattle.std.specs.Prelude.{◌≡◌, ◌<◌, ◌≤◌, ◌*◌, ◌^◌, length};
 ghost use Rattle.k_types.specs.Totals.{total};
 ghost use Rattle.k_plain.specs.Owned.{is_reference, objects_owned, references_in};
-ghost use Rattle.k_state.specs.Contents.{content};
+ghost use Rattle.k_scan.specs.k_state.Contents.{content};
 
-use k_state::{FieldValue, PlainLists, PlainObject, is_same_heap};
+use k_scan::{FieldValue, PlainLists, PlainObject, is_same_heap};
 use k_types::{Heap, Seg};
 
 // Whether the field is a reference.

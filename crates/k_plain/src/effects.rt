@@ -1,6 +1,6 @@
 //! What an operation leaves that is not refused.
 ghost use Rattle.std.specs.Prelude.{◌≡◌, ◌<◌, IfSome, IsTrue, OnErr, OnOk, length};
-ghost use Rattle.k_state.specs.Rooms.{HasRoom};
+ghost use Rattle.k_scan.specs.k_state.Rooms.{HasRoom};
 ghost use Rattle.k_types.specs.Effects.{after_freeze, after_kill, after_new, after_put, after_store, effect, with_exit_of_store};
 ghost use Rattle.k_types.specs.Known.{IsKnownName};
 ghost use Rattle.k_types.specs.Owners.{phase_of};
@@ -14,8 +14,7 @@ ghost use Rattle.k_types.specs.declared.names.Phase.TheVariants.{Populating};
 
 use k_io::NoMemory;
 use k_reply::{DIRECTORY, loaded_reference, root_of};
-use k_scan::{begin, end_of_process};
-use k_state::{FieldValue, PlainLists, is_same_heap};
+use k_scan::{FieldValue, PlainLists, begin, end_of_process, is_same_heap};
 use k_types::{Heap, Name, Op, Phase, Pid, Reg, SharedId, TypeId};
 use std::alloc::Global;
 

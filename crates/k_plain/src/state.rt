@@ -2,8 +2,8 @@
 ghost use Rattle.std.specs.Prelude.{◌≡◌, ◌<◌, ◌↔◌, [], IfOk, IsFalse, IsTrue, OnErr, OnOk, length};
 ghost use Rattle.k_plain.specs.Owned.{objects_owned, references_in};
 ghost use Rattle.k_plain.specs.Sounds.{IsSoundMachine};
-ghost use Rattle.k_state.specs.Machines.{AreSetupRules, Machine};
-ghost use Rattle.k_state.specs.Rooms.{HasRoom};
+ghost use Rattle.k_scan.specs.k_state.Machines.{AreSetupRules, Machine};
+ghost use Rattle.k_scan.specs.k_state.Rooms.{HasRoom};
 ghost use Rattle.k_types.specs.Effects.{step};
 ghost use Rattle.k_types.specs.FileOrder.{end_of};
 ghost use Rattle.k_types.specs.Replies.{reply_to};
@@ -17,8 +17,7 @@ use crate::counting::{objects_of, refs_of};
 use crate::operating::operate;
 use crate::stepping::{step_if_possible, take_step};
 use k_io::NoMemory;
-use k_scan::ending;
-use k_state::PlainLists;
+use k_scan::{PlainLists, ending};
 use k_types::{Event, Heap, Op, Pid, Reply, Setup};
 use std::alloc::Global;
 use std::marker::Model;
@@ -33,7 +32,7 @@ pub struct PlainState {
 
 impl Model for PlainState {
     ghost use Rattle.k_plain.specs.Sounds.{IsSoundMachine};
-    ghost use Rattle.k_state.specs.Machines.{Machine};
+    ghost use Rattle.k_scan.specs.k_state.Machines.{Machine};
 
     ghost Value = { Machine };
 

@@ -1,6 +1,6 @@
 //! One step of the machine.
 ghost use Rattle.std.specs.Prelude.{◌≡◌, ◌↔◌, IfOk, IsFalse, IsTrue, OnErr, OnOk};
-ghost use Rattle.k_state.specs.Rooms.{HasRoom};
+ghost use Rattle.k_scan.specs.k_state.Rooms.{HasRoom};
 ghost use Rattle.k_types.specs.Effects.{after_ended, step};
 ghost use Rattle.k_types.specs.FileOrder.{end_of};
 ghost use Rattle.k_types.specs.Sound.{IsSound};
@@ -10,8 +10,7 @@ ghost use Rattle.k_types.specs.Steps.{IsPossible};
 use crate::answering::take_answered;
 use k_io::NoMemory;
 use k_reply::{may_be_absorbed, may_be_done, may_close};
-use k_scan::{absorb, close, end_collection, end_collection_by};
-use k_state::PlainLists;
+use k_scan::{PlainLists, absorb, close, end_collection, end_collection_by};
 use k_types::{Event, Heap};
 use std::alloc::Global;
 

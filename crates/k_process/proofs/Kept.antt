@@ -5,9 +5,9 @@ use Rattle.k_types.specs.declared.names.Heap.TheVariants.{Kernel, Shared, User}
 use Rattle.k_types.specs.declared.names.Pid.{Pid}
 use Rattle.k_types.specs.Trace.{Trace}
 use Rattle.k_agree.specs.Meeting.{met_note}
-use Rattle.k_book.specs.Books.{BookRecord}
-use Rattle.k_heap.specs.Holdings.{HoldingsValue}
-use Rattle.k_heap.specs.Heaps.{HeapRecord}
+use Rattle.k_locked.specs.k_book.Books.{BookRecord}
+use Rattle.k_locked.specs.k_heap.Holdings.{HoldingsValue}
+use Rattle.k_locked.specs.k_heap.Heaps.{HeapRecord}
 use Rattle.k_locked.specs.SharedHeaps.{SharedRecord}
 use Rattle.k_locked.specs.Met.{CanMeet, HeapHasMet, KernelHasMet, SharedHasMet}
 use Rattle.k_locked.specs.Others.{held_by, shared_by}

@@ -8,3 +8,4 @@ pub use Rattle.k_locked.proofs.Kept as LockedKept
 pub use Rattle.k_locked.proofs.Steps
 pub use Rattle.k_locked.proofs.RoomLeft
 pub use Rattle.k_locked.proofs.Opened
+pub use Rattle.k_locked.proofs.Telling

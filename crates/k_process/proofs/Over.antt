@@ -13,7 +13,7 @@ use Rattle.k_tie.specs.Values.{NoteValue}
 use Rattle.k_agree.specs.Agreement.{Agrees, Shows}
 use Rattle.k_agree.specs.Settled.{IsOver, IsSettled, IsThrough}
 use Rattle.k_agree.proofs.AtTheEnd.{book_sound, is_complete}
-use Rattle.k_heap.specs.Heaps.{has_ended_in}
+use Rattle.k_locked.specs.k_heap.Heaps.{has_ended_in}
 use Rattle.k_locked.specs.SharedHeaps.{SharedRecord}
 use Rattle.k_locked.proofs.CanDo.{done_at_most}
 use Rattle.k_process.specs.declared.process.Process.{Process}

@@ -9,4 +9,9 @@ pub use Rattle.k_locked.specs.Stepped
 pub use Rattle.k_locked.specs.Beside
 pub use Rattle.k_locked.specs.Others
 pub use Rattle.k_locked.specs.Published
-pub use Rattle.k_shared.specs.SharedHeaps
+pub use Rattle.k_locked.specs.k_shared.SharedHeaps
+pub use Rattle.k_locked.specs.k_book
+pub use Rattle.k_locked.specs.k_cell
+pub use Rattle.k_locked.specs.k_commit
+pub use Rattle.k_locked.specs.k_heap
+pub use Rattle.k_locked.specs.k_local

@@ -8,10 +8,10 @@ use Rattle.k_types.specs.Trace.{Trace, process_count}
 use Rattle.k_agree.specs.Agreement.{BookShows, Shows}
 use Rattle.k_agree.specs.Rooms.{AreFirst, event_room}
 use Rattle.k_agree.specs.Settled.{all_ended_in, no_orphan_in}
-use Rattle.k_book.specs.Books.{BookRecord}
-use Rattle.k_heap.specs.Holdings.{HoldingsValue}
+use Rattle.k_locked.specs.k_book.Books.{BookRecord}
+use Rattle.k_locked.specs.k_heap.Holdings.{HoldingsValue}
 use Rattle.k_locked.specs.Standing.{BookStands}
-use Rattle.k_heap.specs.Heaps.{HeapRecord}
+use Rattle.k_locked.specs.k_heap.Heaps.{HeapRecord}
 use Rattle.k_locked.specs.SharedHeaps.{SharedRecord}
 use Rattle.k_locked.specs.Keeping.{KernelKeeps}
 use Rattle.k_process.specs.declared.process.Process.{Process}

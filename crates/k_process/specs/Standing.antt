@@ -2,9 +2,9 @@
 use Rattle.std.specs.Prelude.{◌≡◌, ℕ, IsFalse, List, Option, Some, None, [], ◌∷◌, length, slice_get}
 use Rattle.k_types.specs.declared.op.Op.{Op}
 use Rattle.k_types.specs.Trace.{Trace, operations_of, process_count}
-use Rattle.k_book.specs.Books.{BookRecord}
-use Rattle.k_heap.specs.Holdings.{HoldingsValue}
-use Rattle.k_heap.specs.Heaps.{HeapRecord, has_ended_in}
+use Rattle.k_locked.specs.k_book.Books.{BookRecord}
+use Rattle.k_locked.specs.k_heap.Holdings.{HoldingsValue}
+use Rattle.k_locked.specs.k_heap.Heaps.{HeapRecord, has_ended_in}
 use Rattle.k_locked.specs.SharedHeaps.{SharedRecord}
 use Rattle.k_locked.specs.Keeping.{BookKeeps, HeapKeeps, KernelKeeps, SharedKeeps, operations_left}
 use Rattle.k_process.specs.declared.process.Process.{Process}

@@ -6,6 +6,5 @@ mod heaps;
 mod process;
 
 pub use heaps::Heaps;
-pub use k_kernel::KernelCell;
-pub use k_shared::SharedCell;
+pub use k_locked::{Book, HeapCell, KernelCell, SharedCell, local_local as local};
 pub use process::{Process, next};

@@ -3,7 +3,7 @@ ghost use Rattle.k_process.specs.Standing.{IsNextOf};
 ghost use Rattle.k_process.specs.Standing.{ProcessStands};
 ghost use Rattle.k_process.specs.Worlds.{WorldValue};
 
-use k_heap::HeapCell;
+use k_locked::HeapCell;
 use k_types::Op;
 
 /// A process: its heap's cell, and all operations that the trace has for it.

@@ -8,3 +8,4 @@ pub mod Opened
 pub mod Reported
 pub mod Shows
 pub mod Watched
+pub use Rattle.k_outcome.proofs.Setups

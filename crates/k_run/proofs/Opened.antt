@@ -4,9 +4,9 @@ use Rattle.std.proofs.lemmas.List.Elements.{All-replicate}
 use Rattle.k_types.specs.declared.setup.Setup.{Setup}
 use Rattle.k_turns.specs.Values.{PassValue, TurnsValue, fresh_pass}
 use Rattle.k_shared.specs.SharedHeaps.{SharedRecord}
-use Rattle.k_process.specs.declared.process.Process.{Process}
-use Rattle.k_process.specs.Standing.{HeapsStand, ProcessesStand}
-use Rattle.k_process.specs.Worlds.{WorldValue}
+use Rattle.k_outcome.specs.k_process.declared.process.Process.{Process}
+use Rattle.k_outcome.specs.k_process.Standing.{HeapsStand, ProcessesStand}
+use Rattle.k_outcome.specs.k_process.Worlds.{WorldValue}
 use Rattle.k_still.specs.Opening.{IsSetupOf}
 use Rattle.k_outcome.specs.Listed.{AreRoomsFor}
 use Rattle.k_run.specs.declared.rooms.EndRooms.{EndRooms}

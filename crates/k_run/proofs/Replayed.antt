@@ -2,8 +2,8 @@
 use Rattle.std.proofs.Common.{◌≡◌, ◌∙◌, ap, List, map, refl}
 use Rattle.k_types.specs.declared.names.Pid.{Pid}
 use Rattle.k_trace.specs.Named.{NamedTrace}
-use Rattle.k_process.specs.Heaps.{HeapsValue, value_of}
-use Rattle.k_process.specs.Over.{cells_of}
+use Rattle.k_outcome.specs.k_process.Heaps.{HeapsValue, value_of}
+use Rattle.k_outcome.specs.k_process.Over.{cells_of}
 use Rattle.k_complete.specs.Replaying.{CanReplay, HasReplayed}
 use Rattle.k_state.specs.Machines.{setup_of}
 use Rattle.k_outcome.specs.Ends.{EndsRun}

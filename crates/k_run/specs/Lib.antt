@@ -8,3 +8,5 @@ pub mod Watched
 pub mod Opened
 pub mod Stills
 pub use Rattle.k_still.specs.Opening
+pub use Rattle.k_outcome.specs as k_outcome
+pub use Rattle.k_watch.specs as k_watch

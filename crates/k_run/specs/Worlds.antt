@@ -5,7 +5,7 @@ use Rattle.k_types.specs.declared.setup.Setup.{Setup}
 use Rattle.k_types.specs.Trace.{process_count, trace_of}
 use Rattle.k_trace.specs.Named.{DeclaredNames}
 use Rattle.k_turns.specs.Values.{IsPassOf, PassValue, TurnsValue}
-use Rattle.k_process.specs.Worlds.{WorldValue}
+use Rattle.k_outcome.specs.k_process.Worlds.{WorldValue}
 use Rattle.k_outcome.specs.Listed.{AreRoomsFor}
 use Rattle.k_run.specs.declared.rooms.EndRooms.{EndRooms}
 use Rattle.k_run.specs.Rooms.{AreEndRooms}

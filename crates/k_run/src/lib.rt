@@ -26,8 +26,8 @@ mod whole;
 mod world;
 mod worlds;
 
-pub use k_outcome::Outcome;
-pub use k_process::Process;
+pub use k_outcome::{Outcome, Process};
+pub use k_watch::Sample;
 pub use locked::{LockedBook, LockedKernel, LockedProcess, LockedShared};
 pub use opening::{open, open_watched};
 pub use replaying::replay;

@@ -1,7 +1,7 @@
 //! All heaps of a run put behind their locks, and taken from behind them again.
 ghost use Rattle.std.specs.Prelude.{◌≡◌, IfOk, length, vec_capacity};
-ghost use Rattle.k_process.specs.Heaps.{value_of};
-ghost use Rattle.k_process.specs.Standing.{AllStand, HeapsStand, ProcessesStand};
+ghost use Rattle.k_outcome.specs.k_process.Heaps.{value_of};
+ghost use Rattle.k_outcome.specs.k_process.Standing.{AllStand, HeapsStand, ProcessesStand};
 ghost use Rattle.k_run.specs.Gathering.{CanGather, CanGatherShared};
 ghost use Rattle.k_run.specs.Rooms.{AreEndRooms, HasRoom};
 ghost use Rattle.k_types.specs.Trace.{process_count};
@@ -13,7 +13,7 @@ use crate::rooms::{EndRooms, empty_list};
 use crate::worlds::WorldName;
 use k_book::Book;
 use k_io::NoMemory;
-use k_process::{Heaps, Process};
+use k_outcome::{Heaps, Process};
 use k_shared::SharedCell;
 use k_watch::WatchPen;
 use std::alloc::Global;

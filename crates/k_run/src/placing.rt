@@ -1,10 +1,10 @@
 //! Cells that find the places of their own numbers.
 ghost use Rattle.std.specs.Prelude.{Some, [], map, length, vec_capacity, ◌≡◌, ◌≤◌};
 ghost use Rattle.k_run.specs.Places.{AreFilled, CanPlace, CanPlaceShared, HasPlaced, HasPlacedShared};
-ghost use Rattle.k_process.specs.Worlds.{WorldValue};
+ghost use Rattle.k_outcome.specs.k_process.Worlds.{WorldValue};
 
 use k_book::Book;
-use k_process::Process;
+use k_outcome::Process;
 use k_shared::SharedCell;
 
 /// Puts the process in the place of its number. No other is there, since no two notes are of one cell.

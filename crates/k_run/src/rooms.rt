@@ -3,7 +3,7 @@ ghost use Rattle.std.specs.Prelude.{◌≡◌, ◌≤◌, IfOk, None, [], replic
 ghost use Rattle.k_run.specs.Rooms.{AreEndRooms};
 
 use k_io::NoMemory;
-use k_process::Process;
+use k_outcome::Process;
 use k_shared::SharedCell;
 use std::alloc::Global;
 

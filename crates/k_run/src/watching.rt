@@ -3,8 +3,8 @@ ghost use Rattle.std.specs.Prelude.{◌≡◌, ◌+◌, ◌<◌, ◌^◌, [], �
 ghost use Rattle.k_outcome.specs.Listed.{AreRoomsFor};
 ghost use Rattle.k_run.specs.Rooms.{HasRoom};
 ghost use Rattle.k_run.specs.Watched.{HasTaken, IsWatchedRunOf};
-ghost use Rattle.k_process.specs.Heaps.{value_of};
-ghost use Rattle.k_process.specs.Standing.{AllStand};
+ghost use Rattle.k_outcome.specs.k_process.Heaps.{value_of};
+ghost use Rattle.k_outcome.specs.k_process.Standing.{AllStand};
 ghost use Rattle.k_still.specs.Opening.{IsSetupOf};
 ghost use Rattle.k_trace.specs.Meaning.{meaning_of};
 ghost use Rattle.k_trace.specs.Rules.{IsTrace};

@@ -1,7 +1,7 @@
 //! A run whose heaps and book stand behind locks, and its end.
 ghost use Rattle.std.specs.Prelude.{Some, length, ◌≡◌};
-ghost use Rattle.k_process.specs.Heaps.{value_of};
-ghost use Rattle.k_process.specs.Over.{IsOutcome, cells_of};
+ghost use Rattle.k_outcome.specs.k_process.Heaps.{value_of};
+ghost use Rattle.k_outcome.specs.k_process.Over.{IsOutcome, cells_of};
 ghost use Rattle.k_outcome.specs.Ends.{EndsRun, journal_of};
 ghost use Rattle.k_run.specs.Rooms.{AreEndRooms};
 ghost use Rattle.k_run.specs.Runs.{IsRunOf};
@@ -13,8 +13,7 @@ use crate::locks::{Locks, unlock_all};
 use crate::rooms::EndRooms;
 use crate::worlds::WorldName;
 use k_complete::end_all;
-use k_outcome::{Outcome, ReportRooms, outcome_of};
-use k_process::Heaps;
+use k_outcome::{Heaps, Outcome, ReportRooms, outcome_of};
 use k_trace::Names;
 use k_turns::{TurnPass, Turns};
 use k_types::Setup;

@@ -2,7 +2,7 @@
 use Rattle.k_trace.specs.Named.{NamedTrace}
 use Rattle.k_trace.specs.Rules.{IsTrace}
 use Rattle.k_text.specs.Named.{AreNamed}
-use Rattle.k_outcome.specs.Ends.{EndValue}
+use Rattle.k_run.specs.k_outcome.Ends.{EndValue}
 use Rattle.k_run.specs.Runs.{IsRunOf}
 
 -- all that the trace declares has a name

@@ -6,8 +6,8 @@ use Rattle.k_process.specs.Worlds.{WorldValue}
 use Rattle.k_process.specs.Heaps.{value_of}
 use Rattle.k_process.specs.Standing.{AllStand}
 use Rattle.k_run.specs.Opening.{IsSetupOf}
-use Rattle.k_outcome.specs.Ends.{EndValue}
-use Rattle.k_outcome.specs.Listed.{AreRoomsFor}
+use Rattle.k_run.specs.k_outcome.Ends.{EndValue}
+use Rattle.k_run.specs.k_outcome.Listed.{AreRoomsFor}
 use Rattle.k_trace.specs.Named.{NamedTrace}
 use Rattle.k_run.specs.declared.still.Still.{Still}
 use Rattle.k_run.specs.Opened.{named_in, trace_in, world_in}

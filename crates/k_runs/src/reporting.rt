@@ -6,8 +6,7 @@ ghost use Rattle.k_trace.specs.Rules.{IsTrace};
 
 use k_check::{Verdict, check_report};
 use k_io::{Gate, MemSink};
-use k_outcome::Outcome;
-use k_run::{replay_trace, run_trace};
+use k_run::{Outcome, replay_trace, run_trace};
 use k_text::report;
 use k_trace::{Trace, read_trace};
 use std::alloc::Global;

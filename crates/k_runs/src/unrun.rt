@@ -1,6 +1,6 @@
 //! Runs that are opened and ended, with nothing done between: all is left to the end, which does it one process after the other.
 ghost use Rattle.std.specs.Prelude.{IfOk, None, ◌≡◌};
-ghost use Rattle.k_outcome.specs.Listed.{AreRoomsFor};
+ghost use Rattle.k_run.specs.k_outcome.Listed.{AreRoomsFor};
 ghost use Rattle.k_run.specs.Runs.{IsRunOf};
 ghost use Rattle.k_process.specs.Heaps.{value_of};
 ghost use Rattle.k_process.specs.Standing.{AllStand};
@@ -13,8 +13,7 @@ use crate::reporting::{let_go, report_of, trace_of, trace_text, verdict_on};
 use crate::serving::server_trace;
 use k_check::Verdict;
 use k_io::{MemSink, NoMemory};
-use k_outcome::Outcome;
-use k_run::{Still, World, WorldName, finish, open, open_still};
+use k_run::{Outcome, Still, World, WorldName, finish, open, open_still};
 use k_trace::Trace;
 use std::alloc::Global;
 use std::marker::Brand;

@@ -12,3 +12,4 @@ pub mod Referred
 pub mod Found
 pub mod Noted
 pub mod Ends
+pub use Rattle.k_state.proofs.Pools

@@ -20,4 +20,5 @@ mod waiting;
 
 pub use changes::{absorb, begin, close, end_of_process};
 pub use collecting::{end_collection, end_collection_by, ending};
+pub use k_state::{FieldValue, PlainLists, PlainObject, is_same_heap};
 pub use rooting::roots;

@@ -4,7 +4,7 @@ use Rattle.k_types.specs.declared.names.SharedId.{SharedId}
 use Rattle.k_types.specs.declared.setup.Setup.{Setup}
 use Rattle.k_types.specs.Numbers.{numbers_below}
 use Rattle.k_types.specs.Trace.{segment_count, trace_of}
-use Rattle.k_tie.specs.Values.{NoteValue}
+use Rattle.k_cell.specs.k_tie.Values.{NoteValue}
 use Rattle.k_cell.specs.Holdings.{HasObjectRoom}
 use Rattle.k_shared.specs.SharedHeaps.{holdings_of, opened_shared, shared_segment}
 use Rattle.k_base.proofs.Lists.{at_number}

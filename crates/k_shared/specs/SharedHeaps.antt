@@ -8,7 +8,7 @@ use Rattle.k_types.specs.declared.setup.Setup.{Setup}
 use Rattle.k_types.specs.Agree.{CellValue}
 use Rattle.k_types.specs.Numbers.{numbers_below}
 use Rattle.k_types.specs.Trace.{segment_count, segment_of, trace_of}
-use Rattle.k_tie.specs.Values.{NoteValue}
+use Rattle.k_cell.specs.k_tie.Values.{NoteValue}
 use Rattle.k_cell.specs.Opening.{opening_cell}
 use Rattle.k_cell.specs.Holdings.{HoldingsValue}
 

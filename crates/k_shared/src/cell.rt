@@ -4,9 +4,8 @@ ghost use Rattle.std.specs.Borrow.{sem};
 ghost use Rattle.k_types.specs.Trace.{segment_count, trace_of};
 ghost use Rattle.k_shared.specs.SharedHeaps.{opened_shared};
 
-use k_cell::{HoldingRooms, Holdings};
+use k_cell::{HoldingRooms, Holdings, Note};
 use k_io::NoMemory;
-use k_tie::Note;
 use k_types::{Phase, Seg, Setup, SharedId};
 use std::alloc::Global;
 use std::marker::Model;

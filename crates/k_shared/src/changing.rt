@@ -12,7 +12,7 @@ ghost use Rattle.k_cell.specs.Holdings.{HasGivenSegment, HasObjectRoom};
 ghost use Rattle.k_shared.specs.SharedHeaps.{holdings_of, with_phase};
 
 use crate::cell::SharedCell;
-use k_space::{Body, Segment};
+use k_cell::{Body, Segment};
 use k_types::{Link, Name, Phase, Seg};
 
 impl SharedCell {

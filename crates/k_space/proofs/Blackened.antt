@@ -5,8 +5,8 @@ use Rattle.std.proofs.lemmas.List.Sums.{sum_by-cons}
 use Rattle.std.proofs.lemmas.List.{get_or-set_same, get_or-set_other, length-set}
 use Rattle.slab.specs.Slab.{Slab, get}
 use Rattle.k_base.proofs.Lists.{some_inside}
-use Rattle.k_types.specs.Totals.{total}
-use Rattle.k_types.specs.declared.names.Name.{Name}
+use Rattle.k_base.specs.k_types.Totals.{total}
+use Rattle.k_base.specs.k_types.declared.names.Name.{Name}
 use Rattle.k_space.specs.declared.marks.Place.{Place}
 use Rattle.k_space.specs.declared.marks.Place.TheVariants.{Empty, At}
 use Rattle.k_space.specs.declared.marks.Mark.{Mark}

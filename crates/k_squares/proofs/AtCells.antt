@@ -2,23 +2,23 @@
 use Rattle.std.proofs.Common.{◌≡◌, ℕ, ◌<◌, cond, sym, ap, ◌∙◌, inl, inr, List, length, Option, IsFalse}
 use Rattle.std.proofs.Math.Path.{fun_ext}
 use Rattle.std.proofs.lemmas.Bool.{cases_Bool}
-use Rattle.k_types.specs.declared.names.Name.{Name}
-use Rattle.k_types.specs.declared.names.TypeId.{TypeId}
-use Rattle.k_types.specs.declared.names.Field.{Field}
-use Rattle.k_types.specs.declared.names.Heap.{Heap}
-use Rattle.k_types.specs.declared.names.Phase.{Phase}
-use Rattle.k_types.specs.Names.{heap_eq}
-use Rattle.k_types.specs.Trace.{Trace}
-use Rattle.k_types.specs.State.{State, Content}
-use Rattle.k_types.specs.Owners.{owner_of, user, shared, phase_of, is_absorbed}
-use Rattle.k_types.specs.Updates.{count_done, set_register, create, write, add_exit, open_scan, set_phase}
-use Rattle.k_types.specs.Sound.{IsOrdered}
-use Rattle.k_types.specs.Cells.{Cell, CellPart, part}
-use Rattle.k_frame.specs.PartUpdates.{with_done, with_register, with_written}
-use Rattle.k_frame.proofs.Elsewhere.{count_done_elsewhere, set_register_elsewhere, create_elsewhere, write_elsewhere, add_exit_elsewhere, open_scan_elsewhere}
-use Rattle.k_frame.proofs.ElsewhereOther.{set_phase_elsewhere}
-use Rattle.k_frame.proofs.LocalEffects.{part_done, part_register}
-use Rattle.k_base.proofs.NameTests.{heap_eq-true}
+use Rattle.k_locality.specs.k_types.declared.names.Name.{Name}
+use Rattle.k_locality.specs.k_types.declared.names.TypeId.{TypeId}
+use Rattle.k_locality.specs.k_types.declared.names.Field.{Field}
+use Rattle.k_locality.specs.k_types.declared.names.Heap.{Heap}
+use Rattle.k_locality.specs.k_types.declared.names.Phase.{Phase}
+use Rattle.k_locality.specs.k_types.Names.{heap_eq}
+use Rattle.k_locality.specs.k_types.Trace.{Trace}
+use Rattle.k_locality.specs.k_types.State.{State, Content}
+use Rattle.k_locality.specs.k_types.Owners.{owner_of, user, shared, phase_of, is_absorbed}
+use Rattle.k_locality.specs.k_types.Updates.{count_done, set_register, create, write, add_exit, open_scan, set_phase}
+use Rattle.k_locality.specs.k_types.Sound.{IsOrdered}
+use Rattle.k_locality.specs.k_types.Cells.{Cell, CellPart, part}
+use Rattle.k_locality.specs.k_frame.PartUpdates.{with_done, with_register, with_written}
+use Rattle.k_locality.proofs.Elsewhere.{count_done_elsewhere, set_register_elsewhere, create_elsewhere, write_elsewhere, add_exit_elsewhere, open_scan_elsewhere}
+use Rattle.k_locality.proofs.ElsewhereOther.{set_phase_elsewhere}
+use Rattle.k_locality.proofs.LocalEffects.{part_done, part_register}
+use Rattle.k_locality.proofs.NameTests.{heap_eq-true}
 use Rattle.k_locality.specs.CellChanges.{with_created, with_exit_to, with_scan, in_phase}
 use Rattle.k_locality.proofs.OnCells.{write_on_cell, create_on_cell, add_exit_on_cell, open_scan_on_cell, set_phase_on_cell}
 use Rattle.k_squares.specs.CellAfter.{at_cell}

@@ -1,29 +1,29 @@
 -- What the effect of an operation and the other events make of the book's part.
 use Rattle.std.proofs.Common.{◌≡◌, ℕ, zero, suc, ◌+◌, ◌<◌, ◌&&◌, nat_lt, not, Bool, true, false, cond, refl, sym, ap, ap₂, ◌∙◌, List, [], ◌∷◌, length, Option, Some, None, get_or, set, arith, IsTrue, IsFalse, inl, inr}
 use Rattle.std.proofs.lemmas.Bool.{ltb-true, and_parts, not-false, cases_Bool, false≢true, false_from_ne_true}
-use Rattle.k_types.specs.declared.names.Name.{Name}
-use Rattle.k_types.specs.declared.names.Reg.{Reg}
-use Rattle.k_types.specs.declared.names.TypeId.{TypeId}
-use Rattle.k_types.specs.declared.names.SharedId.{SharedId}
-use Rattle.k_types.specs.declared.names.Heap.TheVariants.{Kernel, User}
-use Rattle.k_types.specs.declared.names.Phase.TheVariants.{Unmade, Populating, Frozen}
-use Rattle.k_types.specs.declared.event.Fault.TheVariants.{Taken}
-use Rattle.k_types.specs.declared.op.Op.{Op}
-use Rattle.k_types.specs.declared.op.Op.TheVariants.{New, KNew, SNew, Store, Load, Move, Clear, Dir, Put, Get, Collect, KCollect, Share, Freeze, Attach, Exit, Kill, Resize}
-use Rattle.k_types.specs.Bounds.{register_count}
-use Rattle.k_types.specs.Names.{heap_eq, directory, among}
-use Rattle.k_types.specs.Trace.{Trace, process_count, kinds_of, limit_of, size_of_type}
-use Rattle.k_types.specs.TraceRules.{AreLimits}
-use Rattle.k_types.specs.State.{State, Refers, Holds, register, has_share, has_exit}
-use Rattle.k_types.specs.Owners.{owner_of, user, shared, phase_of, is_absorbed}
-use Rattle.k_types.specs.Reach.{roots_of}
-use Rattle.k_types.specs.Updates.{set_register, create, add_exit, add_share, set_phase, open_scan}
-use Rattle.k_types.specs.Replies.{faults, answer, is_unmade}
-use Rattle.k_types.specs.Effects.{effect, after_store, after_put, after_freeze, with_exit_of_store, after_end_of, after_absorbed, after_closing}
-use Rattle.k_types.specs.Cells.{BookPart, part, book_part}
-use Rattle.k_types.specs.Steps.{in_range}
-use Rattle.k_types.specs.Sound.{IsSound, IsSized}
-use Rattle.k_frame.proofs.FrameSteps.{none_on}
+use Rattle.k_locality.specs.k_types.declared.names.Name.{Name}
+use Rattle.k_locality.specs.k_types.declared.names.Reg.{Reg}
+use Rattle.k_locality.specs.k_types.declared.names.TypeId.{TypeId}
+use Rattle.k_locality.specs.k_types.declared.names.SharedId.{SharedId}
+use Rattle.k_locality.specs.k_types.declared.names.Heap.TheVariants.{Kernel, User}
+use Rattle.k_locality.specs.k_types.declared.names.Phase.TheVariants.{Unmade, Populating, Frozen}
+use Rattle.k_locality.specs.k_types.declared.event.Fault.TheVariants.{Taken}
+use Rattle.k_locality.specs.k_types.declared.op.Op.{Op}
+use Rattle.k_locality.specs.k_types.declared.op.Op.TheVariants.{New, KNew, SNew, Store, Load, Move, Clear, Dir, Put, Get, Collect, KCollect, Share, Freeze, Attach, Exit, Kill, Resize}
+use Rattle.k_locality.specs.k_types.Bounds.{register_count}
+use Rattle.k_locality.specs.k_types.Names.{heap_eq, directory, among}
+use Rattle.k_locality.specs.k_types.Trace.{Trace, process_count, kinds_of, limit_of, size_of_type}
+use Rattle.k_locality.specs.k_types.TraceRules.{AreLimits}
+use Rattle.k_locality.specs.k_types.State.{State, Refers, Holds, register, has_share, has_exit}
+use Rattle.k_locality.specs.k_types.Owners.{owner_of, user, shared, phase_of, is_absorbed}
+use Rattle.k_locality.specs.k_types.Reach.{roots_of}
+use Rattle.k_locality.specs.k_types.Updates.{set_register, create, add_exit, add_share, set_phase, open_scan}
+use Rattle.k_locality.specs.k_types.Replies.{faults, answer, is_unmade}
+use Rattle.k_locality.specs.k_types.Effects.{effect, after_store, after_put, after_freeze, with_exit_of_store, after_end_of, after_absorbed, after_closing}
+use Rattle.k_locality.specs.k_types.Cells.{BookPart, part, book_part}
+use Rattle.k_locality.specs.k_types.Steps.{in_range}
+use Rattle.k_locality.specs.k_types.Sound.{IsSound, IsSized}
+use Rattle.k_locality.proofs.FrameSteps.{none_on}
 use Rattle.k_locality.specs.Changes.{MayAbsorb, MayExit}
 use Rattle.k_locality.proofs.SoundEffects.{Acts, is_unmade_so}
 use Rattle.k_locality.proofs.SoundSharing.{bytes_none}
@@ -37,8 +37,8 @@ use Rattle.k_locality.proofs.ToldBy.{shared_bytes_told}
 use Rattle.k_squares.specs.CellAfter.{register_in}
 use Rattle.k_squares.specs.BookAfter.{book_repinned, book_stored, book_frozen, book_attached, book_operated}
 use Rattle.k_squares.proofs.CellSquares.{told, populates, populating_phase, freezes, may_exit, killed, kills, may_end_other, ends_told}
-use Rattle.k_base.proofs.Shares.{sharer_of}
-use Rattle.k_frame.proofs.Sizes.{create_sized, share_sized}
+use Rattle.k_locality.proofs.Shares.{sharer_of}
+use Rattle.k_locality.proofs.Sizes.{create_sized, share_sized}
 
 -- a number of a list that is set to what it is
 set_again : (xs : List ℕ) (k : ℕ) → set xs k (get_or xs k 0 + 0) ≡ xs

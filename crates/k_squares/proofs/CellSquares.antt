@@ -2,35 +2,35 @@
 use Rattle.std.proofs.Common.{◌≡◌, ℕ, ◌+◌, ◌<◌, ◌&&◌, nat_lt, not, true, false, cond, refl, sym, ap, ap₂, ◌∙◌, List, [], ◌∷◌, length, Option, Some, None, arith, IsTrue, IsFalse, Bool}
 use Rattle.std.proofs.lemmas.Bool.{ltb-true, and_parts, not-true, not-false}
 use Rattle.std.proofs.Math.Path.{fun_ext}
-use Rattle.k_types.specs.declared.names.Name.{Name}
-use Rattle.k_types.specs.declared.names.SharedId.{SharedId}
-use Rattle.k_types.specs.declared.names.Reg.{Reg}
-use Rattle.k_types.specs.declared.names.TypeId.{TypeId}
-use Rattle.k_types.specs.declared.names.Heap.{Heap}
-use Rattle.k_types.specs.declared.names.Heap.TheVariants.{Kernel, Shared, User}
-use Rattle.k_types.specs.declared.names.Phase.{Phase}
-use Rattle.k_types.specs.declared.names.Phase.TheVariants.{Populating, Frozen}
-use Rattle.k_types.specs.declared.event.Fault.{Fault}
-use Rattle.k_types.specs.declared.event.Fault.TheVariants.{Segv, NotPopulating, Taken, ProcNotBelow}
-use Rattle.k_types.specs.declared.op.Op.{Op}
-use Rattle.k_types.specs.declared.op.Op.TheVariants.{New, KNew, SNew, Store, Load, Move, Clear, Dir, Put, Get, Collect, KCollect, Share, Freeze, Attach, Exit, Kill, Resize}
-use Rattle.k_types.specs.Bounds.{register_count}
-use Rattle.k_types.specs.Names.{heap_eq, directory, among}
-use Rattle.k_types.specs.Trace.{Trace, process_count, segment_count, kinds_of}
-use Rattle.k_types.specs.State.{State, Refers, Holds, register, is_scanned}
-use Rattle.k_types.specs.Owners.{owner_of, user, shared, phase_of, is_absorbed}
-use Rattle.k_types.specs.Reach.{roots_of}
-use Rattle.k_types.specs.Updates.{set_register, create, add_exit, add_share, set_phase, open_scan}
-use Rattle.k_types.specs.Replies.{fault_where, first_fault, faults, at_base, answer, is_populating, is_unmade, ends_other}
-use Rattle.k_types.specs.Effects.{effect, after_store, after_put, after_freeze, with_exit_of_store, after_end_of, after_absorbed, after_closing, after_kill}
-use Rattle.k_types.specs.Cells.{Cell, CellPart, part, book_part, other_cells}
-use Rattle.k_types.specs.Steps.{in_range}
-use Rattle.k_types.specs.Sound.{IsSound}
-use Rattle.k_frame.specs.PartUpdates.{with_written}
-use Rattle.k_frame.proofs.Elsewhere.{add_share_elsewhere, close_elsewhere, set_max_elsewhere}
-use Rattle.k_frame.proofs.ElsewhereOther.{exited_elsewhere, absorbed_elsewhere}
-use Rattle.k_frame.proofs.FrameSteps.{none_on, owner_linked}
-use Rattle.k_frame.proofs.OwnerOf.{owner_user, owner_kernel, owner_shared}
+use Rattle.k_locality.specs.k_types.declared.names.Name.{Name}
+use Rattle.k_locality.specs.k_types.declared.names.SharedId.{SharedId}
+use Rattle.k_locality.specs.k_types.declared.names.Reg.{Reg}
+use Rattle.k_locality.specs.k_types.declared.names.TypeId.{TypeId}
+use Rattle.k_locality.specs.k_types.declared.names.Heap.{Heap}
+use Rattle.k_locality.specs.k_types.declared.names.Heap.TheVariants.{Kernel, Shared, User}
+use Rattle.k_locality.specs.k_types.declared.names.Phase.{Phase}
+use Rattle.k_locality.specs.k_types.declared.names.Phase.TheVariants.{Populating, Frozen}
+use Rattle.k_locality.specs.k_types.declared.event.Fault.{Fault}
+use Rattle.k_locality.specs.k_types.declared.event.Fault.TheVariants.{Segv, NotPopulating, Taken, ProcNotBelow}
+use Rattle.k_locality.specs.k_types.declared.op.Op.{Op}
+use Rattle.k_locality.specs.k_types.declared.op.Op.TheVariants.{New, KNew, SNew, Store, Load, Move, Clear, Dir, Put, Get, Collect, KCollect, Share, Freeze, Attach, Exit, Kill, Resize}
+use Rattle.k_locality.specs.k_types.Bounds.{register_count}
+use Rattle.k_locality.specs.k_types.Names.{heap_eq, directory, among}
+use Rattle.k_locality.specs.k_types.Trace.{Trace, process_count, segment_count, kinds_of}
+use Rattle.k_locality.specs.k_types.State.{State, Refers, Holds, register, is_scanned}
+use Rattle.k_locality.specs.k_types.Owners.{owner_of, user, shared, phase_of, is_absorbed}
+use Rattle.k_locality.specs.k_types.Reach.{roots_of}
+use Rattle.k_locality.specs.k_types.Updates.{set_register, create, add_exit, add_share, set_phase, open_scan}
+use Rattle.k_locality.specs.k_types.Replies.{fault_where, first_fault, faults, at_base, answer, is_populating, is_unmade, ends_other}
+use Rattle.k_locality.specs.k_types.Effects.{effect, after_store, after_put, after_freeze, with_exit_of_store, after_end_of, after_absorbed, after_closing, after_kill}
+use Rattle.k_locality.specs.k_types.Cells.{Cell, CellPart, part, book_part, other_cells}
+use Rattle.k_locality.specs.k_types.Steps.{in_range}
+use Rattle.k_locality.specs.k_types.Sound.{IsSound}
+use Rattle.k_locality.specs.k_frame.PartUpdates.{with_written}
+use Rattle.k_locality.proofs.Elsewhere.{add_share_elsewhere, close_elsewhere, set_max_elsewhere}
+use Rattle.k_locality.proofs.ElsewhereOther.{exited_elsewhere, absorbed_elsewhere}
+use Rattle.k_locality.proofs.FrameSteps.{none_on, owner_linked}
+use Rattle.k_locality.proofs.OwnerOf.{owner_user, owner_kernel, owner_shared}
 use Rattle.k_locality.specs.Changes.{MayAbsorb, MayExit}
 use Rattle.k_locality.proofs.SoundEffects.{Acts, is_unmade_so, is_populating_by}
 use Rattle.k_locality.specs.CellChanges.{with_exit_to, with_scan, in_phase, at_its_end, when_absorbed, taking_in}
@@ -41,9 +41,9 @@ use Rattle.k_locality.proofs.RootsTold.{roots_told}
 use Rattle.k_locality.proofs.ToldBy.{register_told}
 use Rattle.k_squares.specs.CellAfter.{at_cell, register_in, cells_with_register, cells_with_new, with_exit_for, cells_stored, cells_put, cells_frozen, cells_scanned, cells_given, cells_operated}
 use Rattle.k_squares.proofs.AtCells.{one_cell, two_cells, register_cells, create_cells, write_cells, exit_cells, scan_cells, phase_cells}
-use Rattle.k_base.proofs.Lists.{none_is}
-use Rattle.k_types.specs.Limits.{is_above}
-use Rattle.k_types.specs.declared.names.Pid.{Pid}
+use Rattle.k_locality.proofs.Lists.{none_is}
+use Rattle.k_locality.specs.k_types.Limits.{is_above}
+use Rattle.k_locality.specs.k_types.declared.names.Pid.{Pid}
 use Rattle.std.specs.List.{list_all}
 use Rattle.k_squares.specs.Touches.{ends_other_in}
 

@@ -1,27 +1,27 @@
 -- What is let go was counted.
 use Rattle.std.proofs.Common.{◌≡◌, ℕ, zero, suc, length, ◌+◌, ◌<◌, ◌≤◌, ◌==◌, ◌&&◌, ◌||◌, not, Bool, true, false, cond, refl, sym, ap, ◌∙◌, List, [], ◌∷◌, get_or, arith, Option, Some, None, eq-eqb, IsTrue, IsFalse}
 use Rattle.std.proofs.lemmas.Bool.{false≢true}
-use Rattle.k_types.specs.declared.names.Heap.{Heap}
-use Rattle.k_types.specs.declared.names.Name.{Name}
-use Rattle.k_types.specs.Cells.{BookPart, part, book_part, pins_of}
-use Rattle.k_types.specs.Limits.{direct_by}
-use Rattle.k_types.specs.Names.{heap_eq, leads_to, name_eq, among}
-use Rattle.k_types.specs.Numbers.{numbers_below}
-use Rattle.k_types.specs.Owners.{charge_of, owner_of, user}
-use Rattle.k_types.specs.Sound.{IsSound}
-use Rattle.k_types.specs.State.{ExitItem, State, has_exit}
-use Rattle.k_types.specs.Totals.{total}
-use Rattle.k_types.specs.Trace.{Trace, limit_of, process_count}
-use Rattle.k_types.specs.TraceRules.{AreLimits}
-use Rattle.k_base.proofs.NameTests.{heap_eq-true, name_eq_refl}
+use Rattle.k_locality.specs.k_types.declared.names.Heap.{Heap}
+use Rattle.k_locality.specs.k_types.declared.names.Name.{Name}
+use Rattle.k_locality.specs.k_types.Cells.{BookPart, part, book_part, pins_of}
+use Rattle.k_locality.specs.k_types.Limits.{direct_by}
+use Rattle.k_locality.specs.k_types.Names.{heap_eq, leads_to, name_eq, among}
+use Rattle.k_locality.specs.k_types.Numbers.{numbers_below}
+use Rattle.k_locality.specs.k_types.Owners.{charge_of, owner_of, user}
+use Rattle.k_locality.specs.k_types.Sound.{IsSound}
+use Rattle.k_locality.specs.k_types.State.{ExitItem, State, has_exit}
+use Rattle.k_locality.specs.k_types.Totals.{total}
+use Rattle.k_locality.specs.k_types.Trace.{Trace, limit_of, process_count}
+use Rattle.k_locality.specs.k_types.TraceRules.{AreLimits}
+use Rattle.k_locality.proofs.NameTests.{heap_eq-true, name_eq_refl}
 use Rattle.k_locality.proofs.Counting.{total_fewer}
 use Rattle.k_locality.specs.BookChanges.{owner_in, has_way_into, shared_by}
 use Rattle.k_locality.proofs.EndsOnBook.{charge_told}
 use Rattle.k_locality.proofs.OnBook.{owner_told}
 use Rattle.k_squares.specs.Owed.{PinsAreCounted, EntriesAreCounted, ChargesAreCounted}
-use Rattle.k_base.proofs.Sums.{total_at_most, passing_within}
-use Rattle.k_base.proofs.Lists.{get_mapped}
-use Rattle.k_base.proofs.Exits.{exit_counted}
+use Rattle.k_locality.proofs.Sums.{total_at_most, passing_within}
+use Rattle.k_locality.proofs.Lists.{get_mapped}
+use Rattle.k_locality.proofs.Exits.{exit_counted}
 
 pub within_all : (f : ℕ → ℕ) (p n : ℕ) → p < n → f p ≤ total f (numbers_below n)
 within_all f p n low =

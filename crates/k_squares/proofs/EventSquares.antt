@@ -2,28 +2,28 @@
 use Rattle.std.proofs.Common.{◌≡◌, ℕ, ◌<◌, not, refl, sym, ap, ◌∙◌, length, length-set, get_or, ◌+◌, Option, Some, None, arith, IsTrue}
 use Rattle.std.specs.List.{list_all}
 use Rattle.std.proofs.lemmas.Bool.{and_parts, not-true}
-use Rattle.k_types.specs.declared.names.Pid.{Pid}
-use Rattle.k_types.specs.declared.names.SharedId.{SharedId}
-use Rattle.k_types.specs.declared.names.Heap.{Heap}
-use Rattle.k_types.specs.declared.names.Heap.TheVariants.{Kernel, User, Shared}
-use Rattle.k_types.specs.declared.op.Op.{Op}
-use Rattle.k_types.specs.declared.op.Op.TheVariants.{New}
-use Rattle.k_types.specs.declared.event.Fault.{Fault}
-use Rattle.k_types.specs.declared.event.Reply.{Reply}
-use Rattle.k_types.specs.declared.event.Event.{Event}
-use Rattle.k_types.specs.declared.event.Event.TheVariants.{Done, Ended, Absorbed, Closing}
-use Rattle.k_types.specs.Trace.{Trace, process_count}
-use Rattle.k_types.specs.State.{State, is_scanned, scan_of}
-use Rattle.k_types.specs.Owners.{user, phase_of}
-use Rattle.k_types.specs.Updates.{count_done}
-use Rattle.k_types.specs.Replies.{first_fault, faults, answer, reply_to, refused_or}
-use Rattle.k_types.specs.Effects.{step, after_ended, effect, effect_unless, after_operation}
-use Rattle.k_types.specs.Cells.{part, book_part, cells_touched, other_cells}
-use Rattle.k_types.specs.Steps.{IsPossible, is_live, has_sharer}
-use Rattle.k_types.specs.Sound.{IsSound}
-use Rattle.k_frame.specs.PartUpdates.{with_done}
-use Rattle.k_frame.proofs.ElsewhereOther.{collected_elsewhere}
-use Rattle.k_frame.proofs.Sizes.{step_sized}
+use Rattle.k_locality.specs.k_types.declared.names.Pid.{Pid}
+use Rattle.k_locality.specs.k_types.declared.names.SharedId.{SharedId}
+use Rattle.k_locality.specs.k_types.declared.names.Heap.{Heap}
+use Rattle.k_locality.specs.k_types.declared.names.Heap.TheVariants.{Kernel, User, Shared}
+use Rattle.k_locality.specs.k_types.declared.op.Op.{Op}
+use Rattle.k_locality.specs.k_types.declared.op.Op.TheVariants.{New}
+use Rattle.k_locality.specs.k_types.declared.event.Fault.{Fault}
+use Rattle.k_locality.specs.k_types.declared.event.Reply.{Reply}
+use Rattle.k_locality.specs.k_types.declared.event.Event.{Event}
+use Rattle.k_locality.specs.k_types.declared.event.Event.TheVariants.{Done, Ended, Absorbed, Closing}
+use Rattle.k_locality.specs.k_types.Trace.{Trace, process_count}
+use Rattle.k_locality.specs.k_types.State.{State, is_scanned, scan_of}
+use Rattle.k_locality.specs.k_types.Owners.{user, phase_of}
+use Rattle.k_locality.specs.k_types.Updates.{count_done}
+use Rattle.k_locality.specs.k_types.Replies.{first_fault, faults, answer, reply_to, refused_or}
+use Rattle.k_locality.specs.k_types.Effects.{step, after_ended, effect, effect_unless, after_operation}
+use Rattle.k_locality.specs.k_types.Cells.{part, book_part, cells_touched, other_cells}
+use Rattle.k_locality.specs.k_types.Steps.{IsPossible, is_live, has_sharer}
+use Rattle.k_locality.specs.k_types.Sound.{IsSound}
+use Rattle.k_locality.specs.k_frame.PartUpdates.{with_done}
+use Rattle.k_locality.proofs.ElsewhereOther.{collected_elsewhere}
+use Rattle.k_locality.proofs.Sizes.{step_sized}
 use Rattle.k_locality.specs.Changes.{MayAbsorb}
 use Rattle.k_locality.proofs.SoundEffects.{Acts}
 use Rattle.k_locality.specs.CellChanges.{collected}
@@ -31,14 +31,14 @@ use Rattle.k_locality.specs.BookChanges.{when_collected}
 use Rattle.k_locality.proofs.Collected.{ended_on_cell}
 use Rattle.k_locality.proofs.CollectedOnBook.{kernel_collected_on_book, collected_on_book}
 use Rattle.k_locality.proofs.OnBook.{count_done_on_book, owner_told}
-use Rattle.k_types.specs.TraceRules.{AreLimits}
-use Rattle.k_base.proofs.Objects.{some_is}
+use Rattle.k_locality.specs.k_types.TraceRules.{AreLimits}
+use Rattle.k_locality.proofs.Objects.{some_is}
 use Rattle.k_squares.specs.BookAfter.{book_after, book_collected, book_operated}
 use Rattle.k_squares.specs.CellAfter.{at_cell, unless_refused, cell_after, cells_operated}
 use Rattle.k_squares.proofs.AtCells.{one_cell, done_cells}
 use Rattle.k_squares.proofs.BookSquares.{effect_book, absorbed_book, closing_book}
 use Rattle.k_squares.proofs.CellSquares.{effect_cells, absorbed_effect, closing_effect}
-use Rattle.k_base.proofs.Lists.{none_is}
+use Rattle.k_locality.proofs.Lists.{none_is}
 
 -- an answer is no refusal
 pub answer_is_one : {A : Type 0} (trace : Trace) (st : State) (p : ℕ) (op : Op) (after before : A) → unless_refused (answer trace st p op) after before ≡ after

@@ -1,19 +1,19 @@
 -- The laws of this crate, one lemma a clause, for the crates above to cite.
 use Rattle.std.proofs.Common.{◌≡◌, ◌<◌, ℕ, ap, IsFalse}
-use Rattle.k_types.specs.declared.names.Pid.{Pid}
-use Rattle.k_types.specs.declared.op.Op.{Op}
-use Rattle.k_types.specs.declared.event.Reply.{Reply}
-use Rattle.k_types.specs.declared.event.Event.{Event}
-use Rattle.k_types.specs.declared.event.Event.TheVariants.{Done}
-use Rattle.k_types.specs.Names.{among}
-use Rattle.k_types.specs.Trace.{Trace, process_count}
-use Rattle.k_types.specs.TraceRules.{AreLimits}
-use Rattle.k_types.specs.State.{State}
-use Rattle.k_types.specs.Owners.{user}
-use Rattle.k_types.specs.Cells.{Cell, CellPart, BookPart, part, book_part, cells_touched}
-use Rattle.k_types.specs.Local.{is_local}
-use Rattle.k_types.specs.Steps.{IsPossible}
-use Rattle.k_types.specs.Sound.{IsSound}
+use Rattle.k_locality.specs.k_types.declared.names.Pid.{Pid}
+use Rattle.k_locality.specs.k_types.declared.op.Op.{Op}
+use Rattle.k_locality.specs.k_types.declared.event.Reply.{Reply}
+use Rattle.k_locality.specs.k_types.declared.event.Event.{Event}
+use Rattle.k_locality.specs.k_types.declared.event.Event.TheVariants.{Done}
+use Rattle.k_locality.specs.k_types.Names.{among}
+use Rattle.k_locality.specs.k_types.Trace.{Trace, process_count}
+use Rattle.k_locality.specs.k_types.TraceRules.{AreLimits}
+use Rattle.k_locality.specs.k_types.State.{State}
+use Rattle.k_locality.specs.k_types.Owners.{user}
+use Rattle.k_locality.specs.k_types.Cells.{Cell, CellPart, BookPart, part, book_part, cells_touched}
+use Rattle.k_locality.specs.k_types.Local.{is_local}
+use Rattle.k_locality.specs.k_types.Steps.{IsPossible}
+use Rattle.k_locality.specs.k_types.Sound.{IsSound}
 use Rattle.k_squares.specs.Answers.{reply_in}
 use Rattle.k_squares.specs.Touches.{touched_in}
 use Rattle.k_squares.specs.Locals.{is_local_in}

@@ -1,14 +1,14 @@
 -- What an event leaves of the cells that it touches and of the book is the same in two states where these have the same parts.
 use Rattle.std.proofs.Common.{◌≡◌, sym, ap, ◌∙◌}
 use Rattle.std.specs.List.{list_any}
-use Rattle.k_types.specs.declared.event.Event.{Event}
-use Rattle.k_types.specs.declared.event.Event.TheVariants.{Done, Ended, Absorbed, Closing}
-use Rattle.k_types.specs.Names.{heap_eq}
-use Rattle.k_types.specs.Trace.{Trace}
-use Rattle.k_types.specs.TraceRules.{AreLimits}
-use Rattle.k_types.specs.State.{State}
-use Rattle.k_types.specs.Cells.{Cell, CellPart, part, book_part, touches}
-use Rattle.k_types.specs.Steps.{IsPossible}
+use Rattle.k_locality.specs.k_types.declared.event.Event.{Event}
+use Rattle.k_locality.specs.k_types.declared.event.Event.TheVariants.{Done, Ended, Absorbed, Closing}
+use Rattle.k_locality.specs.k_types.Names.{heap_eq}
+use Rattle.k_locality.specs.k_types.Trace.{Trace}
+use Rattle.k_locality.specs.k_types.TraceRules.{AreLimits}
+use Rattle.k_locality.specs.k_types.State.{State}
+use Rattle.k_locality.specs.k_types.Cells.{Cell, CellPart, part, book_part, touches}
+use Rattle.k_locality.specs.k_types.Steps.{IsPossible}
 use Rattle.k_locality.proofs.SameEnds.{event_possible}
 use Rattle.k_squares.specs.CellAfter.{cell_after}
 use Rattle.k_squares.specs.BookAfter.{book_after}

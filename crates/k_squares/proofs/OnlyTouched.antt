@@ -2,28 +2,28 @@
 use Rattle.std.proofs.Common.{◌≡◌, ◌⊎◌, ℕ, ◌+◌, ◌==◌, ◌++◌, not, nat_lt, cond, refl, sym, ap, ap₂, ◌∙◌, List, [], ◌∷◌, Option, Some, None, eqb-true, IsTrue, inl, inr, Bool, false, true}
 use Rattle.std.specs.List.{list_any}
 use Rattle.std.proofs.lemmas.Bool.{or_left, or_right, cases_Bool}
-use Rattle.k_types.specs.declared.names.Name.{Name}
-use Rattle.k_types.specs.declared.names.TypeId.{TypeId}
-use Rattle.k_types.specs.declared.names.Pid.{Pid}
-use Rattle.k_types.specs.declared.names.Heap.{Heap}
-use Rattle.k_types.specs.declared.names.Heap.TheVariants.{Kernel, User, Shared}
-use Rattle.k_types.specs.declared.names.Phase.TheVariants.{Populating, Frozen}
-use Rattle.k_types.specs.declared.op.Op.{Op}
-use Rattle.k_types.specs.declared.op.Op.TheVariants.{New, KNew, SNew, Store, Load, Move, Clear, Dir, Put, Get, Collect, KCollect, Share, Freeze, Attach, Exit, Kill}
-use Rattle.k_types.specs.declared.event.Fault.{Fault}
-use Rattle.k_types.specs.declared.event.Fault.TheVariants.{Foreign, NotSharer, WrongKind, Frozen as FrozenFault, Segv, NotPopulating, KernelFull}
-use Rattle.k_types.specs.declared.event.Reply.{Reply}
-use Rattle.k_types.specs.declared.event.Reply.TheVariants.{Done as DoneReply, Made, Loaded, Value, Refused}
-use Rattle.k_types.specs.declared.event.Event.{Event}
-use Rattle.k_types.specs.declared.event.Event.TheVariants.{Done, Ended, Absorbed, Closing}
-use Rattle.k_types.specs.Names.{heap_eq}
-use Rattle.k_types.specs.Trace.{Trace, process_count, size_of_type}
-use Rattle.k_types.specs.State.{Refers, Holds}
-use Rattle.k_types.specs.Owners.{user, phase_of}
-use Rattle.k_types.specs.Replies.{fault_where, first_fault, at_base, refused_or, is_ref, is_populating, reference, number_in}
-use Rattle.k_types.specs.Cells.{Cell, CellPart, BookPart}
-use Rattle.k_frame.specs.PartUpdates.{held_in, with_done, with_written}
-use Rattle.k_base.proofs.NameTests.{heap_eq_refl}
+use Rattle.k_locality.specs.k_types.declared.names.Name.{Name}
+use Rattle.k_locality.specs.k_types.declared.names.TypeId.{TypeId}
+use Rattle.k_locality.specs.k_types.declared.names.Pid.{Pid}
+use Rattle.k_locality.specs.k_types.declared.names.Heap.{Heap}
+use Rattle.k_locality.specs.k_types.declared.names.Heap.TheVariants.{Kernel, User, Shared}
+use Rattle.k_locality.specs.k_types.declared.names.Phase.TheVariants.{Populating, Frozen}
+use Rattle.k_locality.specs.k_types.declared.op.Op.{Op}
+use Rattle.k_locality.specs.k_types.declared.op.Op.TheVariants.{New, KNew, SNew, Store, Load, Move, Clear, Dir, Put, Get, Collect, KCollect, Share, Freeze, Attach, Exit, Kill}
+use Rattle.k_locality.specs.k_types.declared.event.Fault.{Fault}
+use Rattle.k_locality.specs.k_types.declared.event.Fault.TheVariants.{Foreign, NotSharer, WrongKind, Frozen as FrozenFault, Segv, NotPopulating, KernelFull}
+use Rattle.k_locality.specs.k_types.declared.event.Reply.{Reply}
+use Rattle.k_locality.specs.k_types.declared.event.Reply.TheVariants.{Done as DoneReply, Made, Loaded, Value, Refused}
+use Rattle.k_locality.specs.k_types.declared.event.Event.{Event}
+use Rattle.k_locality.specs.k_types.declared.event.Event.TheVariants.{Done, Ended, Absorbed, Closing}
+use Rattle.k_locality.specs.k_types.Names.{heap_eq}
+use Rattle.k_locality.specs.k_types.Trace.{Trace, process_count, size_of_type}
+use Rattle.k_locality.specs.k_types.State.{Refers, Holds}
+use Rattle.k_locality.specs.k_types.Owners.{user, phase_of}
+use Rattle.k_locality.specs.k_types.Replies.{fault_where, first_fault, at_base, refused_or, is_ref, is_populating, reference, number_in}
+use Rattle.k_locality.specs.k_types.Cells.{Cell, CellPart, BookPart}
+use Rattle.k_locality.specs.k_frame.PartUpdates.{held_in, with_done, with_written}
+use Rattle.k_locality.proofs.NameTests.{heap_eq_refl}
 use Rattle.k_locality.specs.CellChanges.{with_scan, taking_in, at_its_end, when_absorbed, in_phase, collected, next_name_in}
 use Rattle.k_locality.specs.BookChanges.{owner_in, bytes_in, with_pin_moved, with_entry, without_entries, drops, when_collected, when_ended, when_taken}
 use Rattle.k_locality.specs.Roots.{roots_in}

@@ -1,32 +1,32 @@
 -- What an operation is answered, which cells it touches and whether it is local is told by parts.
 use Rattle.std.proofs.Common.{◌≡◌, ℕ, ◌+◌, ◌<◌, ◌==◌, ◌&&◌, ◌||◌, ◌++◌, not, nat_lt, nat_le, Bool, true, false, cond, refl, sym, ap, ap₂, ◌∙◌, List, [], ◌∷◌, length, Option, Some, None, get_or, eqb-true, IsTrue, IsFalse}
 use Rattle.std.proofs.lemmas.Bool.{ltb-true, and_parts}
-use Rattle.k_types.specs.declared.names.Name.{Name}
-use Rattle.k_types.specs.declared.names.SharedId.{SharedId}
-use Rattle.k_types.specs.declared.names.Phase.{Phase}
-use Rattle.k_types.specs.declared.names.Heap.{Heap}
-use Rattle.k_types.specs.declared.names.Heap.TheVariants.{Kernel, User, Shared}
-use Rattle.k_types.specs.declared.op.Op.{Op}
-use Rattle.k_types.specs.declared.op.Op.TheVariants.{New, KNew, SNew, Store, Load, Move, Clear, Put, Get, Share, Freeze, Attach, Kill, Resize}
-use Rattle.k_types.specs.declared.event.Fault.{Fault}
-use Rattle.k_types.specs.declared.event.Fault.TheVariants.{Foreign, NoField, WrongKind, Frozen, Segv, NotPopulating, NotFrozen, Taken, KernelFull, LimitNotBelow, InUse}
-use Rattle.k_types.specs.declared.event.Reply.{Reply}
-use Rattle.k_types.specs.declared.event.Reply.TheVariants.{Made, Loaded, Value}
-use Rattle.k_types.specs.declared.event.Event.{Event}
-use Rattle.k_types.specs.declared.event.Event.TheVariants.{Done, Ended, Absorbed, Closing}
-use Rattle.k_types.specs.Barrier.{legal_store}
-use Rattle.k_types.specs.Bounds.{maximum_below, register_count}
-use Rattle.k_types.specs.Names.{heap_eq, kind_of, among}
-use Rattle.k_types.specs.Trace.{Trace, process_count, limit_of, size_of_type}
-use Rattle.k_types.specs.TraceRules.{AreLimits}
-use Rattle.k_types.specs.State.{State, Content, Holds, register, object_at, fields_of, has_share}
-use Rattle.k_types.specs.Owners.{owner_of, user, phase_of, bytes_of, is_absorbed}
-use Rattle.k_types.specs.Replies.{fault_where, first_fault, faults, at_base, answer, reply_to, refused_or, access_faults, store_faults, load_faults, number_faults, sharer_fault, is_frozen_heap, is_foreign, is_ref, is_unmade, root_of, is_frozen, is_populating, passes_barrier, limit_fault, size_fault, field_at, field_count, reference, reference_from, number_in, number_from, may_resize}
-use Rattle.k_types.specs.Cells.{CellPart, part, book_part, base_cell, access_cell, other_cells, cells_touched}
-use Rattle.k_types.specs.Local.{is_local, is_own, is_local_store, is_local_load}
-use Rattle.k_types.specs.Steps.{in_range}
-use Rattle.k_frame.specs.PartUpdates.{held_in}
-use Rattle.k_frame.proofs.OwnerOf.{owner_user, owner_kernel, owner_shared}
+use Rattle.k_locality.specs.k_types.declared.names.Name.{Name}
+use Rattle.k_locality.specs.k_types.declared.names.SharedId.{SharedId}
+use Rattle.k_locality.specs.k_types.declared.names.Phase.{Phase}
+use Rattle.k_locality.specs.k_types.declared.names.Heap.{Heap}
+use Rattle.k_locality.specs.k_types.declared.names.Heap.TheVariants.{Kernel, User, Shared}
+use Rattle.k_locality.specs.k_types.declared.op.Op.{Op}
+use Rattle.k_locality.specs.k_types.declared.op.Op.TheVariants.{New, KNew, SNew, Store, Load, Move, Clear, Put, Get, Share, Freeze, Attach, Kill, Resize}
+use Rattle.k_locality.specs.k_types.declared.event.Fault.{Fault}
+use Rattle.k_locality.specs.k_types.declared.event.Fault.TheVariants.{Foreign, NoField, WrongKind, Frozen, Segv, NotPopulating, NotFrozen, Taken, KernelFull, LimitNotBelow, InUse}
+use Rattle.k_locality.specs.k_types.declared.event.Reply.{Reply}
+use Rattle.k_locality.specs.k_types.declared.event.Reply.TheVariants.{Made, Loaded, Value}
+use Rattle.k_locality.specs.k_types.declared.event.Event.{Event}
+use Rattle.k_locality.specs.k_types.declared.event.Event.TheVariants.{Done, Ended, Absorbed, Closing}
+use Rattle.k_locality.specs.k_types.Barrier.{legal_store}
+use Rattle.k_locality.specs.k_types.Bounds.{maximum_below, register_count}
+use Rattle.k_locality.specs.k_types.Names.{heap_eq, kind_of, among}
+use Rattle.k_locality.specs.k_types.Trace.{Trace, process_count, limit_of, size_of_type}
+use Rattle.k_locality.specs.k_types.TraceRules.{AreLimits}
+use Rattle.k_locality.specs.k_types.State.{State, Content, Holds, register, object_at, fields_of, has_share}
+use Rattle.k_locality.specs.k_types.Owners.{owner_of, user, phase_of, bytes_of, is_absorbed}
+use Rattle.k_locality.specs.k_types.Replies.{fault_where, first_fault, faults, at_base, answer, reply_to, refused_or, access_faults, store_faults, load_faults, number_faults, sharer_fault, is_frozen_heap, is_foreign, is_ref, is_unmade, root_of, is_frozen, is_populating, passes_barrier, limit_fault, size_fault, field_at, field_count, reference, reference_from, number_in, number_from, may_resize}
+use Rattle.k_locality.specs.k_types.Cells.{CellPart, part, book_part, base_cell, access_cell, other_cells, cells_touched}
+use Rattle.k_locality.specs.k_types.Local.{is_local, is_own, is_local_store, is_local_load}
+use Rattle.k_locality.specs.k_types.Steps.{in_range}
+use Rattle.k_locality.specs.k_frame.PartUpdates.{held_in}
+use Rattle.k_locality.proofs.OwnerOf.{owner_user, owner_kernel, owner_shared}
 use Rattle.k_locality.specs.BookChanges.{owner_in}
 use Rattle.k_locality.proofs.OnBook.{owner_told}
 use Rattle.k_locality.proofs.ToldBy.{register_told, object_told, name_told, bytes_told, shared_bytes_told, limit_told, full_for_told}
@@ -35,7 +35,7 @@ use Rattle.k_squares.specs.Answers.{field_in, field_count_in, sharer_fault_in, i
 use Rattle.k_squares.specs.Touches.{base_cell_in, access_cell_in, other_cells_in, touched_in}
 use Rattle.k_squares.specs.Locals.{is_local_store_in, is_local_load_in, is_local_in}
 use Rattle.k_squares.proofs.CellSquares.{told, populates, populating_phase}
-use Rattle.k_types.specs.Limits.{is_above}
+use Rattle.k_locality.specs.k_types.Limits.{is_above}
 use Rattle.k_locality.proofs.UseShown.{use_is_shown}
 
 -- the faults at a base by two functions that agree

@@ -1,29 +1,29 @@
 -- What an operation is answered, by the parts of the process's own cell, of the touched cells and of the book.
 use Rattle.std.specs.Prelude.{◌≡◌, ℕ, ◌+◌, not, nat_lt, nat_le, Bool, true, false, List, [], ◌∷◌, ◌++◌, length, slice_index_or, Option, Some, None, if◌then◌else◌, ◌&&◌}
-use Rattle.k_types.specs.declared.names.Name.{Name}
-use Rattle.k_types.specs.declared.names.SharedId.{SharedId}
-use Rattle.k_types.specs.declared.names.Heap.{Heap}
-use Rattle.k_types.specs.declared.names.Heap.TheVariants.{Kernel, User, Shared}
-use Rattle.k_types.specs.declared.op.Op.{Op}
-use Rattle.k_types.specs.declared.op.Op.TheVariants.{New, KNew, SNew, Store, Load, Move, Clear, Dir, Put, Get, Collect, KCollect, Share, Freeze, Attach, Exit, Kill, Resize}
-use Rattle.k_types.specs.declared.event.Fault.{Fault}
-use Rattle.k_types.specs.declared.event.Fault.TheVariants.{Foreign, NotSharer, NoField, WrongKind, Frozen, Segv, NotPopulating, NotFrozen, Taken, KernelFull, ProcNotBelow, LimitNotBelow, InUse}
-use Rattle.k_types.specs.declared.event.Event.{Event}
-use Rattle.k_types.specs.declared.event.Event.TheVariants.{Done as DoneEvent, Ended, Absorbed, Closing}
-use Rattle.k_types.specs.declared.event.Reply.{Reply}
-use Rattle.k_types.specs.declared.event.Reply.TheVariants.{Done, Made, Loaded, Value}
-use Rattle.k_types.specs.Barrier.{legal_store}
-use Rattle.k_types.specs.Names.{heap_eq, kind_of, directory}
-use Rattle.k_types.specs.Trace.{Trace, limit_of, size_of_type, segment_of}
-use Rattle.k_types.specs.State.{Content, Holds, object_at, fields_of}
-use Rattle.k_types.specs.Owners.{user, phase_of}
-use Rattle.k_types.specs.Replies.{fault_where, first_fault, at_base, limit_fault, refused_or, is_foreign, is_ref, is_unmade, is_frozen, is_populating, root_of, reference, number_in, may_resize}
-use Rattle.k_types.specs.Cells.{Cell, CellPart, BookPart, use_shown}
+use Rattle.k_locality.specs.k_types.declared.names.Name.{Name}
+use Rattle.k_locality.specs.k_types.declared.names.SharedId.{SharedId}
+use Rattle.k_locality.specs.k_types.declared.names.Heap.{Heap}
+use Rattle.k_locality.specs.k_types.declared.names.Heap.TheVariants.{Kernel, User, Shared}
+use Rattle.k_locality.specs.k_types.declared.op.Op.{Op}
+use Rattle.k_locality.specs.k_types.declared.op.Op.TheVariants.{New, KNew, SNew, Store, Load, Move, Clear, Dir, Put, Get, Collect, KCollect, Share, Freeze, Attach, Exit, Kill, Resize}
+use Rattle.k_locality.specs.k_types.declared.event.Fault.{Fault}
+use Rattle.k_locality.specs.k_types.declared.event.Fault.TheVariants.{Foreign, NotSharer, NoField, WrongKind, Frozen, Segv, NotPopulating, NotFrozen, Taken, KernelFull, ProcNotBelow, LimitNotBelow, InUse}
+use Rattle.k_locality.specs.k_types.declared.event.Event.{Event}
+use Rattle.k_locality.specs.k_types.declared.event.Event.TheVariants.{Done as DoneEvent, Ended, Absorbed, Closing}
+use Rattle.k_locality.specs.k_types.declared.event.Reply.{Reply}
+use Rattle.k_locality.specs.k_types.declared.event.Reply.TheVariants.{Done, Made, Loaded, Value}
+use Rattle.k_locality.specs.k_types.Barrier.{legal_store}
+use Rattle.k_locality.specs.k_types.Names.{heap_eq, kind_of, directory}
+use Rattle.k_locality.specs.k_types.Trace.{Trace, limit_of, size_of_type, segment_of}
+use Rattle.k_locality.specs.k_types.State.{Content, Holds, object_at, fields_of}
+use Rattle.k_locality.specs.k_types.Owners.{user, phase_of}
+use Rattle.k_locality.specs.k_types.Replies.{fault_where, first_fault, at_base, limit_fault, refused_or, is_foreign, is_ref, is_unmade, is_frozen, is_populating, root_of, reference, number_in, may_resize}
+use Rattle.k_locality.specs.k_types.Cells.{Cell, CellPart, BookPart, use_shown}
 use Rattle.k_locality.specs.CellChanges.{next_name_in}
 use Rattle.k_locality.specs.BookChanges.{owner_in, bytes_in}
 use Rattle.k_locality.specs.Told.{full_limit_in, full_for_in}
 use Rattle.k_squares.specs.CellAfter.{register_in}
-use Rattle.k_types.specs.Limits.{is_above}
+use Rattle.k_locality.specs.k_types.Limits.{is_above}
 
 -- what the field of the object holds, by the cell that has it
 abbrev pub field_in : CellPart → Name → ℕ → Content

@@ -1,18 +1,18 @@
 -- What an event makes of the book's part, as a function of the parts that the cells and the book had.
 use Rattle.std.specs.Prelude.{ℕ, not, slice_index_or, Option, Some, None, if◌then◌else◌}
-use Rattle.k_types.specs.declared.names.Name.{Name}
-use Rattle.k_types.specs.declared.names.Heap.{Heap}
-use Rattle.k_types.specs.declared.names.Heap.TheVariants.{Kernel, User, Shared}
-use Rattle.k_types.specs.declared.names.Phase.TheVariants.{Populating, Frozen}
-use Rattle.k_types.specs.declared.op.Op.{Op}
-use Rattle.k_types.specs.declared.op.Op.TheVariants.{New, KNew, SNew, Store, Load, Move, Clear, Dir, Put, Get, Collect, KCollect, Share, Freeze, Attach, Exit, Kill, Resize}
-use Rattle.k_types.specs.declared.event.Event.{Event}
-use Rattle.k_types.specs.declared.event.Event.TheVariants.{Done as DoneEvent, Ended, Absorbed, Closing}
-use Rattle.k_types.specs.declared.event.Reply.{Reply}
-use Rattle.k_types.specs.Names.{heap_eq}
-use Rattle.k_types.specs.Trace.{Trace, limit_of, size_of_type}
-use Rattle.k_types.specs.Owners.{user, shared}
-use Rattle.k_types.specs.Cells.{Cell, CellPart, BookPart}
+use Rattle.k_locality.specs.k_types.declared.names.Name.{Name}
+use Rattle.k_locality.specs.k_types.declared.names.Heap.{Heap}
+use Rattle.k_locality.specs.k_types.declared.names.Heap.TheVariants.{Kernel, User, Shared}
+use Rattle.k_locality.specs.k_types.declared.names.Phase.TheVariants.{Populating, Frozen}
+use Rattle.k_locality.specs.k_types.declared.op.Op.{Op}
+use Rattle.k_locality.specs.k_types.declared.op.Op.TheVariants.{New, KNew, SNew, Store, Load, Move, Clear, Dir, Put, Get, Collect, KCollect, Share, Freeze, Attach, Exit, Kill, Resize}
+use Rattle.k_locality.specs.k_types.declared.event.Event.{Event}
+use Rattle.k_locality.specs.k_types.declared.event.Event.TheVariants.{Done as DoneEvent, Ended, Absorbed, Closing}
+use Rattle.k_locality.specs.k_types.declared.event.Reply.{Reply}
+use Rattle.k_locality.specs.k_types.Names.{heap_eq}
+use Rattle.k_locality.specs.k_types.Trace.{Trace, limit_of, size_of_type}
+use Rattle.k_locality.specs.k_types.Owners.{user, shared}
+use Rattle.k_locality.specs.k_types.Cells.{Cell, CellPart, BookPart}
 use Rattle.k_locality.specs.BookChanges.{owner_in, with_pin_moved, with_charge, with_shared_bytes, with_entry, with_phase, with_share, when_closed, without_entries, drops, when_collected, when_ended, when_taken, with_max}
 use Rattle.k_squares.specs.CellAfter.{register_in, reference_given, unless_refused}
 use Rattle.k_squares.specs.Touches.{ends_other_in}

@@ -1,23 +1,23 @@
 -- What an event makes of the parts of the cells, as a function of the parts that the cells and the book had. The book tells who
 -- owns what, the process's own cell what its registers hold, and the reply what an operation was answered.
 use Rattle.std.specs.Prelude.{ℕ, Option, Some, None, if◌then◌else◌}
-use Rattle.k_types.specs.declared.names.Name.{Name}
-use Rattle.k_types.specs.declared.names.TypeId.{TypeId}
-use Rattle.k_types.specs.declared.names.Heap.{Heap}
-use Rattle.k_types.specs.declared.names.Heap.TheVariants.{Kernel, Shared, User}
-use Rattle.k_types.specs.declared.names.Phase.TheVariants.{Populating, Frozen}
-use Rattle.k_types.specs.declared.op.Op.{Op}
-use Rattle.k_types.specs.declared.op.Op.TheVariants.{New, KNew, SNew, Store, Load, Move, Clear, Dir, Put, Get, Collect, KCollect, Share, Freeze, Attach, Exit, Kill, Resize}
-use Rattle.k_types.specs.declared.event.Event.{Event}
-use Rattle.k_types.specs.declared.event.Event.TheVariants.{Done as DoneEvent, Ended, Absorbed, Closing}
-use Rattle.k_types.specs.declared.event.Reply.{Reply}
-use Rattle.k_types.specs.declared.event.Reply.TheVariants.{Done, Made, Loaded, Value, Refused}
-use Rattle.k_types.specs.Names.{heap_eq}
-use Rattle.k_types.specs.Trace.{Trace, kinds_of, segment_of}
-use Rattle.k_types.specs.State.{Refers, Holds}
-use Rattle.k_types.specs.Owners.{user, shared}
-use Rattle.k_types.specs.Cells.{Cell, CellPart, BookPart}
-use Rattle.k_frame.specs.PartUpdates.{held_in, with_done, with_register, with_written}
+use Rattle.k_locality.specs.k_types.declared.names.Name.{Name}
+use Rattle.k_locality.specs.k_types.declared.names.TypeId.{TypeId}
+use Rattle.k_locality.specs.k_types.declared.names.Heap.{Heap}
+use Rattle.k_locality.specs.k_types.declared.names.Heap.TheVariants.{Kernel, Shared, User}
+use Rattle.k_locality.specs.k_types.declared.names.Phase.TheVariants.{Populating, Frozen}
+use Rattle.k_locality.specs.k_types.declared.op.Op.{Op}
+use Rattle.k_locality.specs.k_types.declared.op.Op.TheVariants.{New, KNew, SNew, Store, Load, Move, Clear, Dir, Put, Get, Collect, KCollect, Share, Freeze, Attach, Exit, Kill, Resize}
+use Rattle.k_locality.specs.k_types.declared.event.Event.{Event}
+use Rattle.k_locality.specs.k_types.declared.event.Event.TheVariants.{Done as DoneEvent, Ended, Absorbed, Closing}
+use Rattle.k_locality.specs.k_types.declared.event.Reply.{Reply}
+use Rattle.k_locality.specs.k_types.declared.event.Reply.TheVariants.{Done, Made, Loaded, Value, Refused}
+use Rattle.k_locality.specs.k_types.Names.{heap_eq}
+use Rattle.k_locality.specs.k_types.Trace.{Trace, kinds_of, segment_of}
+use Rattle.k_locality.specs.k_types.State.{Refers, Holds}
+use Rattle.k_locality.specs.k_types.Owners.{user, shared}
+use Rattle.k_locality.specs.k_types.Cells.{Cell, CellPart, BookPart}
+use Rattle.k_locality.specs.k_frame.PartUpdates.{held_in, with_done, with_register, with_written}
 use Rattle.k_locality.specs.CellChanges.{with_created, with_exit_to, with_scan, in_phase, collected, at_its_end, when_absorbed, taking_in}
 use Rattle.k_locality.specs.BookChanges.{owner_in}
 use Rattle.k_locality.specs.Roots.{roots_in}

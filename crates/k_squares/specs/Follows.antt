@@ -1,16 +1,16 @@
 -- What is said of the functions of parts.
 use Rattle.std.specs.Prelude.{◌≡◌, ◌<◌, ℕ, IsTrue, IsFalse}
 use Rattle.std.specs.List.{list_any}
-use Rattle.k_types.specs.declared.op.Op.{Op}
-use Rattle.k_types.specs.declared.event.Event.{Event}
-use Rattle.k_types.specs.Names.{heap_eq, among}
-use Rattle.k_types.specs.Trace.{Trace, process_count}
-use Rattle.k_types.specs.State.{State}
-use Rattle.k_types.specs.Replies.{reply_to}
-use Rattle.k_types.specs.Effects.{step}
-use Rattle.k_types.specs.Cells.{Cell, CellPart, BookPart, part, book_part, touches}
-use Rattle.k_types.specs.Steps.{IsPossible, in_range}
-use Rattle.k_types.specs.Sound.{IsSound}
+use Rattle.k_locality.specs.k_types.declared.op.Op.{Op}
+use Rattle.k_locality.specs.k_types.declared.event.Event.{Event}
+use Rattle.k_locality.specs.k_types.Names.{heap_eq, among}
+use Rattle.k_locality.specs.k_types.Trace.{Trace, process_count}
+use Rattle.k_locality.specs.k_types.State.{State}
+use Rattle.k_locality.specs.k_types.Replies.{reply_to}
+use Rattle.k_locality.specs.k_types.Effects.{step}
+use Rattle.k_locality.specs.k_types.Cells.{Cell, CellPart, BookPart, part, book_part, touches}
+use Rattle.k_locality.specs.k_types.Steps.{IsPossible, in_range}
+use Rattle.k_locality.specs.k_types.Sound.{IsSound}
 use Rattle.k_locality.specs.Same.{SameToEvent}
 use Rattle.k_squares.specs.CellAfter.{cell_after}
 use Rattle.k_squares.specs.BookAfter.{book_after}

@@ -6,3 +6,4 @@ pub mod Locals
 pub mod Follows
 pub mod Owed
 pub use Rattle.k_locality.specs.Same
+pub use Rattle.k_locality.specs.k_laws

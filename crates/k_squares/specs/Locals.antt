@@ -1,12 +1,12 @@
 -- Which operations a process does inside its own heap, by the part of its cell alone.
 use Rattle.std.specs.Prelude.{ℕ, ◌+◌, ◌==◌, ◌&&◌, ◌||◌, not, nat_le, Bool, true, false, Option, Some, None}
-use Rattle.k_types.specs.declared.names.Name.{Name}
-use Rattle.k_types.specs.declared.op.Op.{Op}
-use Rattle.k_types.specs.declared.op.Op.TheVariants.{New, KNew, SNew, Store, Load, Move, Clear, Dir, Put, Get, Collect, KCollect, Share, Freeze, Attach, Exit, Kill, Resize}
-use Rattle.k_types.specs.Replies.{is_ref, reference}
-use Rattle.k_types.specs.Local.{is_own}
-use Rattle.k_types.specs.Cells.{CellPart}
-use Rattle.k_frame.specs.PartUpdates.{held_in}
+use Rattle.k_locality.specs.k_types.declared.names.Name.{Name}
+use Rattle.k_locality.specs.k_types.declared.op.Op.{Op}
+use Rattle.k_locality.specs.k_types.declared.op.Op.TheVariants.{New, KNew, SNew, Store, Load, Move, Clear, Dir, Put, Get, Collect, KCollect, Share, Freeze, Attach, Exit, Kill, Resize}
+use Rattle.k_locality.specs.k_types.Replies.{is_ref, reference}
+use Rattle.k_locality.specs.k_types.Local.{is_own}
+use Rattle.k_locality.specs.k_types.Cells.{CellPart}
+use Rattle.k_locality.specs.k_frame.PartUpdates.{held_in}
 use Rattle.k_squares.specs.Answers.{field_count_in, field_in}
 
 -- the access to the field of an object of the process's heap is refused for the field, or what it holds is own

@@ -1,12 +1,12 @@
 -- What the book has counted of what a process or a heap holds, so that it is there when it is let go.
 use Rattle.std.specs.Prelude.{◌≡◌, ◌<◌, ◌≤◌, ℕ, ◌+◌, ◌-◌, not, IsTrue, IsFalse, slice_index_or, Some}
-use Rattle.k_types.specs.declared.names.Name.{Name}
-use Rattle.k_types.specs.declared.names.Heap.{Heap}
-use Rattle.k_types.specs.Names.{heap_eq}
-use Rattle.k_types.specs.Trace.{Trace, limit_of}
-use Rattle.k_types.specs.State.{State}
-use Rattle.k_types.specs.Owners.{user}
-use Rattle.k_types.specs.Cells.{part, book_part, pins_of}
+use Rattle.k_locality.specs.k_types.declared.names.Name.{Name}
+use Rattle.k_locality.specs.k_types.declared.names.Heap.{Heap}
+use Rattle.k_locality.specs.k_types.Names.{heap_eq}
+use Rattle.k_locality.specs.k_types.Trace.{Trace, limit_of}
+use Rattle.k_locality.specs.k_types.State.{State}
+use Rattle.k_locality.specs.k_types.Owners.{user}
+use Rattle.k_locality.specs.k_types.Cells.{part, book_part, pins_of}
 use Rattle.k_locality.specs.CellChanges.{collected}
 use Rattle.k_locality.specs.BookChanges.{owner_in, bytes_in, charge_in, has_way_into, registers_in, shared_by}
 use Rattle.k_squares.specs.CellAfter.{register_in}

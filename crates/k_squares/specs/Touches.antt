@@ -1,18 +1,18 @@
 -- Which cells an event touches, by the book's part and for an operation by the part of its process's own cell.
 use Rattle.std.specs.Prelude.{ℕ, List, [], ◌∷◌, Option, Some, None, if◌then◌else◌, Bool, not, ◌&&◌}
-use Rattle.k_types.specs.declared.names.Name.{Name}
-use Rattle.k_types.specs.declared.names.Pid.{Pid}
-use Rattle.k_types.specs.declared.names.Heap.{Heap}
-use Rattle.k_types.specs.declared.names.Heap.TheVariants.{Kernel, User, Shared}
-use Rattle.k_types.specs.declared.op.Op.{Op}
-use Rattle.k_types.specs.declared.op.Op.TheVariants.{New, KNew, SNew, Store, Load, Move, Clear, Dir, Put, Get, Collect, KCollect, Share, Freeze, Attach, Exit, Kill, Resize}
-use Rattle.k_types.specs.declared.event.Event.{Event}
-use Rattle.k_types.specs.declared.event.Event.TheVariants.{Done as DoneEvent, Ended, Absorbed, Closing}
-use Rattle.k_types.specs.Trace.{Trace}
-use Rattle.k_types.specs.Cells.{Cell, CellPart, BookPart}
-use Rattle.k_frame.specs.PartUpdates.{held_in}
+use Rattle.k_locality.specs.k_types.declared.names.Name.{Name}
+use Rattle.k_locality.specs.k_types.declared.names.Pid.{Pid}
+use Rattle.k_locality.specs.k_types.declared.names.Heap.{Heap}
+use Rattle.k_locality.specs.k_types.declared.names.Heap.TheVariants.{Kernel, User, Shared}
+use Rattle.k_locality.specs.k_types.declared.op.Op.{Op}
+use Rattle.k_locality.specs.k_types.declared.op.Op.TheVariants.{New, KNew, SNew, Store, Load, Move, Clear, Dir, Put, Get, Collect, KCollect, Share, Freeze, Attach, Exit, Kill, Resize}
+use Rattle.k_locality.specs.k_types.declared.event.Event.{Event}
+use Rattle.k_locality.specs.k_types.declared.event.Event.TheVariants.{Done as DoneEvent, Ended, Absorbed, Closing}
+use Rattle.k_locality.specs.k_types.Trace.{Trace}
+use Rattle.k_locality.specs.k_types.Cells.{Cell, CellPart, BookPart}
+use Rattle.k_locality.specs.k_frame.PartUpdates.{held_in}
 use Rattle.k_locality.specs.BookChanges.{owner_in}
-use Rattle.k_types.specs.Limits.{is_above}
+use Rattle.k_locality.specs.k_types.Limits.{is_above}
 
 -- the cell beside the process's own that an access to an object of the heap touches
 abbrev pub base_cell_in : BookPart → ℕ → Heap → List Cell

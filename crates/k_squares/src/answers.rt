@@ -4,18 +4,18 @@ ghost use Rattle.k_squares.specs.Answers.{reply_in};
 ghost use Rattle.k_squares.specs.Touches.{touched_in};
 ghost use Rattle.k_squares.specs.Locals.{is_local_in};
 ghost use Rattle.k_squares.specs.Follows.{AgreeWhereTouched, GiveTheSame, ReplyFollows};
-ghost use Rattle.k_types.specs.Cells.{BookPart, Cell, CellPart, book_part, cells_touched, part};
-ghost use Rattle.k_types.specs.Local.{is_local};
-ghost use Rattle.k_types.specs.Names.{among};
-ghost use Rattle.k_types.specs.Owners.{user};
-ghost use Rattle.k_types.specs.State.{State};
-ghost use Rattle.k_types.specs.Trace.{Trace, process_count};
-ghost use Rattle.k_types.specs.TraceRules.{AreLimits};
-ghost use Rattle.k_types.specs.declared.event.Event.TheVariants.{Done};
-ghost use Rattle.k_types.specs.declared.event.Event.{Event};
-ghost use Rattle.k_types.specs.declared.event.Reply.{Reply};
-ghost use Rattle.k_types.specs.declared.names.Pid.{Pid};
-ghost use Rattle.k_types.specs.declared.op.Op.{Op};
+ghost use Rattle.k_locality.specs.k_types.Cells.{BookPart, Cell, CellPart, book_part, cells_touched, part};
+ghost use Rattle.k_locality.specs.k_types.Local.{is_local};
+ghost use Rattle.k_locality.specs.k_types.Names.{among};
+ghost use Rattle.k_locality.specs.k_types.Owners.{user};
+ghost use Rattle.k_locality.specs.k_types.State.{State};
+ghost use Rattle.k_locality.specs.k_types.Trace.{Trace, process_count};
+ghost use Rattle.k_locality.specs.k_types.TraceRules.{AreLimits};
+ghost use Rattle.k_locality.specs.k_types.declared.event.Event.TheVariants.{Done};
+ghost use Rattle.k_locality.specs.k_types.declared.event.Event.{Event};
+ghost use Rattle.k_locality.specs.k_types.declared.event.Reply.{Reply};
+ghost use Rattle.k_locality.specs.k_types.declared.names.Pid.{Pid};
+ghost use Rattle.k_locality.specs.k_types.declared.op.Op.{Op};
 
 /// Which cells an event touches is told by the book, and for an operation by its process's cell.
 pub fn touched_cells_are_told()

@@ -1,11 +1,11 @@
 //! What is let go was counted on the book.
 ghost use Rattle.std.specs.Prelude.{IsFalse, ◌<◌, ℕ};
 ghost use Rattle.k_squares.specs.Owed.{ChargesAreCounted, EntriesAreCounted, PinsAreCounted};
-ghost use Rattle.k_types.specs.Names.{among};
-ghost use Rattle.k_types.specs.Sound.{IsSound};
-ghost use Rattle.k_types.specs.State.{State};
-ghost use Rattle.k_types.specs.Trace.{Trace, process_count};
-ghost use Rattle.k_types.specs.TraceRules.{AreLimits};
+ghost use Rattle.k_locality.specs.k_types.Names.{among};
+ghost use Rattle.k_locality.specs.k_types.Sound.{IsSound};
+ghost use Rattle.k_locality.specs.k_types.State.{State};
+ghost use Rattle.k_locality.specs.k_types.Trace.{Trace, process_count};
+ghost use Rattle.k_locality.specs.k_types.TraceRules.{AreLimits};
 
 /// What is let go is there: the pin of a register before it is unpinned, the entry of an exit item before the heap leaves it, and
 /// what a process's end or a collection's end credits at the process's limit.

@@ -1,11 +1,11 @@
 //! What each event makes of the parts of the cells and of the book.
 ghost use Rattle.k_squares.specs.Follows.{BookFollows, CellsFollow, FindsTheSame, LeavesSameBook, LeavesSameCells};
-ghost use Rattle.k_types.specs.Sound.{IsSound};
-ghost use Rattle.k_types.specs.State.{State};
-ghost use Rattle.k_types.specs.Steps.{IsPossible};
-ghost use Rattle.k_types.specs.Trace.{Trace};
-ghost use Rattle.k_types.specs.TraceRules.{AreLimits};
-ghost use Rattle.k_types.specs.declared.event.Event.{Event};
+ghost use Rattle.k_locality.specs.k_types.Sound.{IsSound};
+ghost use Rattle.k_locality.specs.k_types.State.{State};
+ghost use Rattle.k_locality.specs.k_types.Steps.{IsPossible};
+ghost use Rattle.k_locality.specs.k_types.Trace.{Trace};
+ghost use Rattle.k_locality.specs.k_types.TraceRules.{AreLimits};
+ghost use Rattle.k_locality.specs.k_types.declared.event.Event.{Event};
 
 /// What a step makes of the cells and of the book is a function of their parts: from a sound state each possible event leaves
 /// each cell the part that the parts before it give, and the book likewise.

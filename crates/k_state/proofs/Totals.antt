@@ -11,8 +11,8 @@ use Rattle.k_types.specs.State.{Content, Object}
 use Rattle.k_types.specs.Trace.{Trace, segment_count}
 use Rattle.k_types.specs.Updates.{object_after_write, with_object}
 use Rattle.std.proofs.Math.Seq.{take-append_seam}
-use Rattle.k_base.proofs.Lists.{get_or-set_cases}
-use Rattle.k_base.proofs.Objects.{written_name}
+use Rattle.k_frame.proofs.Lists.{get_or-set_cases}
+use Rattle.k_frame.proofs.Objects.{written_name}
 use Rattle.k_state.specs.Machines.{AreTotals, IsDeclared, segment_bytes}
 use Rattle.k_state.specs.Segments.{objects_in}
 use Rattle.k_state.proofs.Sums.{total_filter}

@@ -1,3 +1,4 @@
 pub mod Told
 pub mod Once
 pub use Rattle.k_collect.proofs.Ends
+pub use Rattle.k_collect.proofs.KernelBegins

@@ -9,3 +9,4 @@ pub use Rattle.k_collect.specs.Begun
 pub use Rattle.k_collect.specs.Collecting
 pub use Rattle.k_collect.specs.Marking
 pub use Rattle.k_collect.specs.Ended
+pub use Rattle.k_collect.specs as k_collect

@@ -16,8 +16,9 @@ mod reached;
 mod reaching;
 
 pub use k_collect::{
-    begin_heap, begin_kernel, close_kernel, end_heap, end_kernel, end_swept_heap, end_swept_kernel,
-    mark_heap, mark_kernel, settle_heap, settle_kernel, sweep_heap, sweep_kernel,
+    begin_heap, begin_kernel, close_kernel, end_heap, end_heap_listing, end_kernel,
+    end_kernel_listing, end_swept_heap, end_swept_kernel, mark_heap, mark_kernel, meet_heap,
+    meet_kernel, meet_shared, settle_heap, settle_kernel, sweep_heap, sweep_kernel,
 };
 pub use k_depart::{absorb, exit, kill};
 pub use k_own::{publish, step_own};

@@ -2,3 +2,11 @@ pub mod Totals
 pub mod RuleKept
 pub mod Opening
 pub mod Seats
+pub use Rattle.k_base.proofs.Ancestors
+pub use Rattle.k_base.proofs.Exits
+pub use Rattle.k_base.proofs.Lists
+pub use Rattle.k_base.proofs.NameTests
+pub use Rattle.k_base.proofs.Objects
+pub use Rattle.k_base.proofs.Owners
+pub use Rattle.k_base.proofs.Sums
+pub use Rattle.k_base.proofs.Tests

@@ -1,12 +1,12 @@
 -- Each step keeps the rule.
 use Rattle.std.proofs.Common.{◌≡◌, ◌≢◌, ℕ, suc, ◌+◌, ◌-◌, ◌%◌, ◌^◌, ◌<◌, List, [], ◌∷◌, ◌++◌, length, set, refl, sym, ap, ◌∙◌, subst, ⊎_elim, arith, length-append}
 use Rattle.std.specs.Prelude.{slice_index}
-use Rattle.k_types.specs.Complete.{IsPrefixOf}
+use Rattle.k_base.specs.k_types.Complete.{IsPrefixOf}
 use mathlib.Core.Option.{some}
 use lib.ListN.{get_elem?}
 use Rattle.atomic_table.specs.Table.{State, Me, keeps, Allows, Splits, Joins}
 use Rattle.atomic_table.proofs.Lists.{at_set, at_snoc, set_again}
-use Rattle.k_types.specs.declared.event.Event.{Event}
+use Rattle.k_base.specs.k_types.declared.event.Event.{Event}
 use Rattle.k_tie.specs.declared.view.CellView.{CellView}
 use Rattle.k_tie.specs.declared.view.View.{View}
 use Rattle.k_tie.specs.declared.view.View.TheVariants.{Journal, Note, Spent}

@@ -1,6 +1,6 @@
 -- Of one number and of two, and of longer lists.
 use Rattle.std.proofs.Common.{◌≡◌, ◌≢◌, ℕ, ◌+◌, List, [], ◌∷◌, ◌++◌, sym, ap, ◌∙◌, arith, append_assoc, subst}
-use Rattle.k_types.specs.Complete.{IsPrefixOf}
+use Rattle.k_base.specs.k_types.Complete.{IsPrefixOf}
 use mathlib.Core.Logic.{dite}
 use native.Mathlib.Decide.{ℕ_discrete}
 use Rattle.k_base.proofs.Sums.{one_if_same-same, one_if_same-other}

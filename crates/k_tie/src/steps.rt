@@ -1,7 +1,7 @@
 //! The rule of the journal's table, and the kinds of step on its word.
 use crate::view::View;
 use atomic_table::{Join, Play, Split, TableRule};
-use k_types::Event;
+use k_base::Event;
 use std::marker::{Brand, PhantomData};
 
 /// The rule: the word is the length of the journal, and each note has a prefix of it and its cell's total.
@@ -72,13 +72,13 @@ impl Play<(), View> for ReadCells {
 
 /// The event that an append adds. Each call picks it.
 pub trait AppendedEvent {
-    ghost use Rattle.k_types.specs.declared.event.Event.{Event};
+    ghost use Rattle.k_base.specs.k_types.declared.event.Event.{Event};
 
     ghost event: { Event };
 }
 
 impl AppendedEvent for Brand {
-    ghost use Rattle.k_types.specs.declared.event.Event.TheVariants.{Closing};
+    ghost use Rattle.k_base.specs.k_types.declared.event.Event.TheVariants.{Closing};
 
     ghost event = { Closing };
 }

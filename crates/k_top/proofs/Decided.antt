@@ -11,7 +11,7 @@ use Rattle.k_trace.proofs.Exact.{apart, one}
 use Rattle.k_history.specs.Good.{IsGoodReport, IsRefusedAt}
 use Rattle.k_history.proofs.Refusals.{proper}
 use Rattle.k_state.specs.Machines.{setup_of}
-use Rattle.k_solo.proofs.Lines.{setup_rules}
+use Rattle.k_check.proofs.Lines.{setup_rules}
 use Rattle.k_check.proofs.Splits.{one_split}
 use Rattle.k_audit.specs.Verdicts.{IsVerdict}
 use Rattle.k_audit.specs.declared.verdicts.Verdict.{Verdict}

@@ -22,9 +22,9 @@ use Rattle.k_laws.proofs.SoundSteps.{legal_sound}
 use Rattle.k_known.specs.Fits.{AreAtMostTheSerials, NumbersFit}
 use Rattle.k_known.proofs.Laws.{maxima_fit, numbers_fit, objects_are_at_most_the_serials}
 use Rattle.k_state.specs.Machines.{setup_of}
-use Rattle.k_solo.proofs.Lines.{setup_rules}
-use Rattle.k_solo.proofs.Unread.{legal_unread}
-use Rattle.k_outcome.proofs.Setups.{same_state}
+use Rattle.k_check.proofs.Lines.{setup_rules}
+use Rattle.k_check.proofs.Unread.{legal_unread}
+use Rattle.k_run.proofs.Setups.{same_state}
 use Rattle.k_big.proofs.Charges.{charges_small}
 use Rattle.k_audit.specs.Grammar.{IsNumber}
 use Rattle.k_audit.specs.Ranges.{HoldsNumber, IsInRange}

@@ -14,8 +14,8 @@ use Rattle.k_history.proofs.ReportLines.{history_of_text}
 use Rattle.k_reports.proofs.Spelled.{all_spelled}
 use Rattle.k_laws.proofs.Laws.{collections_free_nothing_live}
 use Rattle.k_order.proofs.Laws.{ended_histories_leave_what_the_directory_reaches}
-use Rattle.k_outcome.specs.Ends.{EndValue, journal_of, last_state}
-use Rattle.k_outcome.proofs.Setups.{report_over_setup}
+use Rattle.k_run.specs.k_outcome.Ends.{EndValue, journal_of, last_state}
+use Rattle.k_run.proofs.Setups.{report_over_setup}
 use Rattle.k_run.specs.Runs.{IsRunOf}
 use Rattle.k_top.specs.Reports.{IsReportOf}
 

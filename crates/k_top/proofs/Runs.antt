@@ -3,7 +3,7 @@ use Rattle.std.proofs.Common.{◌≡◌, ℕ, List, ◌++◌, Result, Ok, Err, r
 use Rattle.std.specs.Prelude.{IfOk, IfErr}
 use Rattle.k_types.specs.declared.event.Event.{Event}
 use Rattle.k_types.specs.Bounds.{most_trace_bytes}
-use Rattle.k_outcome.specs.Ends.{EndValue, journal_of}
+use Rattle.k_run.specs.k_outcome.Ends.{EndValue, journal_of}
 use Rattle.k_trace.specs.Named.{NamedTrace}
 use Rattle.k_words.specs.Words.{Text}
 use Rattle.k_top.specs.declared.run_error.RunError.{RunError}
@@ -14,7 +14,7 @@ use Rattle.k_top.specs.Ends.{Input, Output}
 use Rattle.k_top.specs.Parts.{IsWritten, TellsOfBytes, TellsOfSource}
 use Rattle.k_top.specs.Reports.{IsFileReport, IsReportOf, IsSomeReport, IsWatchedReport}
 use Rattle.k_top.specs.Samples.{samples_text}
-use Rattle.k_watch.specs.declared.sample.Sample.{Sample}
+use Rattle.k_run.specs.k_watch.declared.sample.Sample.{Sample}
 use Rattle.k_top.specs.Runs.{HasCause, HasReplayed, HasRun, HasWatchedRun, IsNamedEnd, status_of, text_of}
 use Rattle.k_top.proofs.Reports.{named_in_run, report_by_run}
 

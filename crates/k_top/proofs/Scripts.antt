@@ -3,7 +3,7 @@ use Rattle.std.proofs.Common.{List, Result, Ok, Err, refl, subst}
 use Rattle.std.specs.Prelude.{IfOk, IfErr}
 use Rattle.k_types.specs.declared.event.Event.{Event}
 use Rattle.k_types.specs.Bounds.{most_trace_bytes}
-use Rattle.k_outcome.specs.Ends.{EndValue}
+use Rattle.k_run.specs.k_outcome.Ends.{EndValue}
 use Rattle.k_trace.specs.Named.{NamedTrace}
 use Rattle.k_top.specs.declared.run_error.RunError.{RunError}
 use Rattle.k_top.specs.declared.run_error.RunError.TheVariants.{NoMemory, Unread, Bad}

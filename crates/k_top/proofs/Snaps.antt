@@ -8,8 +8,8 @@ use Rattle.k_types.specs.Trace.{Trace}
 use Rattle.k_words.specs.Words.{Text}
 use Rattle.k_trace.specs.Named.{DeclaredNames, NamedTrace}
 use Rattle.k_state.specs.Machines.{setup_of}
-use Rattle.k_outcome.specs.Ends.{EndValue, journal_of, last_state}
-use Rattle.k_outcome.proofs.Setups.{same_state}
+use Rattle.k_run.specs.k_outcome.Ends.{EndValue, journal_of, last_state}
+use Rattle.k_run.proofs.Setups.{same_state}
 use Rattle.k_run.specs.Runs.{IsRunOf}
 use Rattle.k_types.specs.FileOrder.{file_order}
 use Rattle.k_trace.specs.Rules.{IsTrace}

@@ -3,8 +3,8 @@ use Rattle.std.proofs.Common.{◌∙◌, ℕ, ◌<◌, ◌≤◌, length, ap, su
 use Rattle.k_types.specs.State.{State}
 use Rattle.k_types.specs.Steps.{state_after}
 use Rattle.k_types.specs.Trace.{Trace}
-use Rattle.k_outcome.specs.Ends.{EndValue, journal_of, last_state}
-use Rattle.k_outcome.proofs.Setups.{same_state}
+use Rattle.k_run.specs.k_outcome.Ends.{EndValue, journal_of, last_state}
+use Rattle.k_run.proofs.Setups.{same_state}
 use Rattle.k_big.specs.Summary.{HasSmallCharges, summary_over}
 use Rattle.k_big.specs.Workload.{big_trace, most_objects}
 use Rattle.k_big.proofs.Charges.{charges_small}

@@ -7,7 +7,7 @@ use Rattle.k_trace.specs.Named.{DeclaredNames, NamedTrace}
 use Rattle.k_trace.specs.Rules.{IsTrace}
 use Rattle.k_history.specs.Good.{IsBegun}
 use Rattle.k_check.proofs.Rooms.{few_events}
-use Rattle.k_outcome.specs.Ends.{EndValue, IsEnd, journal_of}
+use Rattle.k_run.specs.k_outcome.Ends.{EndValue, IsEnd, journal_of}
 use Rattle.k_run.specs.Runs.{IsRunOf}
 use Rattle.k_state.specs.Machines.{AreSetupRules}
 use Rattle.k_work.specs.Crediting.{AreSmall}

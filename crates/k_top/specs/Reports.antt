@@ -18,10 +18,10 @@ use Rattle.k_text.specs.Report.{report_text}
 use Rattle.k_history.specs.Histories.{history_of}
 use Rattle.k_big.specs.Summary.{summary_text}
 use Rattle.k_big.specs.Workload.{big_trace}
-use Rattle.k_watch.specs.declared.sample.Sample.{Sample}
-use Rattle.k_watch.specs.Numbers.{numbers_after}
-use Rattle.k_watch.specs.Samples.{IsLast, IsRising}
-use Rattle.k_watch.specs.Shown.{AllTellOf}
+use Rattle.k_run.specs.k_watch.declared.sample.Sample.{Sample}
+use Rattle.k_run.specs.k_watch.Numbers.{numbers_after}
+use Rattle.k_run.specs.k_watch.Samples.{IsLast, IsRising}
+use Rattle.k_run.specs.k_watch.Shown.{AllTellOf}
 use Rattle.k_state.specs.Machines.{setup_of}
 use Rattle.k_audit.specs.Snapshots.{snapshot_text}
 use Rattle.k_audit.specs.Verdicts.{IsVerdict}

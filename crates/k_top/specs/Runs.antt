@@ -8,10 +8,10 @@ use Rattle.k_trace.specs.Named.{NamedTrace}
 use Rattle.k_trace.specs.Rules.{Spells}
 use Rattle.k_text.specs.Named.{AreNamed}
 use Rattle.k_text.specs.Report.{text_over}
-use Rattle.k_outcome.specs.Ends.{EndValue, journal_of, last_state}
+use Rattle.k_run.specs.k_outcome.Ends.{EndValue, journal_of, last_state}
 use Rattle.k_run.specs.Runs.{IsRunOf}
 use Rattle.k_run.specs.Watched.{IsWatchedRunOf}
-use Rattle.k_watch.specs.declared.sample.Sample.{Sample}
+use Rattle.k_run.specs.k_watch.declared.sample.Sample.{Sample}
 use Rattle.k_work.specs.Crediting.{AreSmall}
 use Rattle.k_work.specs.Tables.{Work, work_of}
 use Rattle.k_top.specs.declared.run_error.RunError.{RunError}

@@ -1,7 +1,7 @@
 -- The text of the samples that a watcher took.
 use Rattle.std.specs.Prelude.{List, [], ◌∷◌, ◌++◌, map, decimal, codes}
 use Rattle.k_words.specs.Words.{Text, text_of}
-use Rattle.k_watch.specs.declared.sample.Sample.{Sample}
+use Rattle.k_run.specs.k_watch.declared.sample.Sample.{Sample}
 
 -- The words of the line of a sample: how many events there were, the use of the root limit, and how many processes lived.
 abbrev pub sample_words : Sample → List Text

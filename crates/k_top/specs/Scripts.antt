@@ -5,7 +5,7 @@ use Rattle.k_types.specs.FileOrder.{file_order}
 use Rattle.k_words.specs.Words.{Text}
 use Rattle.k_trace.specs.Named.{NamedTrace}
 use Rattle.k_trace.specs.Rules.{IsTrace}
-use Rattle.k_outcome.specs.Ends.{EndValue, journal_of}
+use Rattle.k_run.specs.k_outcome.Ends.{EndValue, journal_of}
 use Rattle.k_run.specs.Runs.{IsRunOf}
 use Rattle.k_spawn.specs.Judgement.{judgement, IsBad}
 use Rattle.k_spawn.specs.Scripts.{Script}

@@ -1,16 +1,15 @@
 //! The text of a run that was watched: its report, and the samples that the watcher took.
 ghost use Rattle.std.specs.Prelude.{◌≡◌, ◌++◌, ◌∷◌, [], map};
 ghost use Rattle.k_io.specs.Writing.{Writes};
-ghost use Rattle.k_outcome.specs.Ends.{journal_of, last_state};
+ghost use Rattle.k_run.specs.k_outcome.Ends.{journal_of, last_state};
 ghost use Rattle.k_text.specs.Report.{text_over};
 ghost use Rattle.k_words.specs.Words.{text_of};
 ghost use Rattle.k_top.specs.Runs.{IsNamedEnd};
 ghost use Rattle.k_top.specs.Samples.{sample_words, samples_text};
 
 use k_io::{Sink, WriteFailed};
-use k_outcome::Outcome;
+use k_run::{Outcome, Sample};
 use k_text::report;
-use k_watch::Sample;
 use k_words::LineBuffer;
 use k_work::put_word;
 

@@ -1,7 +1,7 @@
 //! The command that runs a trace and tells the work of its collections.
 ghost use Rattle.std.specs.Prelude.{◌≡◌, ◌++◌, IfErr, IfOk};
 ghost use Rattle.k_io.specs.Writing.{Writes};
-ghost use Rattle.k_outcome.specs.Ends.{journal_of, last_state};
+ghost use Rattle.k_run.specs.k_outcome.Ends.{journal_of, last_state};
 ghost use Rattle.k_text.specs.Report.{text_over};
 ghost use Rattle.k_types.specs.Bounds.{most_trace_bytes};
 ghost use Rattle.k_work.specs.Lines.{work_text};
@@ -15,8 +15,7 @@ use crate::running::{tell_end, trace_of};
 use crate::status::Status;
 use crate::texts::after_writing;
 use k_io::{Gate, Sink, Source, WriteFailed};
-use k_outcome::Outcome;
-use k_run::run_trace;
+use k_run::{Outcome, run_trace};
 use k_text::report;
 use k_work::{WorkTable, work_of, write_work};
 use std::alloc::Global;

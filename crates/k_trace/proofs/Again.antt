@@ -5,9 +5,9 @@ use Rattle.std.proofs.lemmas.List.{length-map}
 use Rattle.std.specs.Fmt.{digits}
 use Rattle.std.specs.List.{list_all}
 use Rattle.std.specs.Str.{bytes_eq}
-use Rattle.k_types.specs.declared.names.Field.{Field}
-use Rattle.k_types.specs.declared.names.Field.TheVariants.{Ref, Int}
-use Rattle.k_types.specs.TraceRules.{IsBuilt}
+use Rattle.k_limits.specs.k_types.declared.names.Field.{Field}
+use Rattle.k_limits.specs.k_types.declared.names.Field.TheVariants.{Ref, Int}
+use Rattle.k_limits.specs.k_types.TraceRules.{IsBuilt}
 use Rattle.k_words.specs.Words.{Text, word_at}
 use Rattle.k_words.specs.Names.{is_name, is_letter, is_name_byte, is_keyword, is_section, is_report_word, is_reserved}
 use Rattle.k_words.proofs.Spelled.{both}

@@ -4,9 +4,9 @@ use Rattle.std.proofs.lemmas.Grind.{common_steps}
 use Rattle.std.proofs.lemmas.List.{map-set, get_or-map, get_or-replicate, map-append, length-map}
 use Rattle.std.proofs.Math.Seq.{map-set_same}
 use Rattle.std.specs.Global.{Vec}
-use Rattle.k_types.specs.declared.op.Op.{Op}
-use Rattle.k_types.specs.declared.names.Pid.{Pid}
-use Rattle.k_types.specs.TraceRules.{is_exit}
+use Rattle.k_limits.specs.k_types.declared.op.Op.{Op}
+use Rattle.k_limits.specs.k_types.declared.names.Pid.{Pid}
+use Rattle.k_limits.specs.k_types.TraceRules.{is_exit}
 use Rattle.k_trace.specs.Grown.{has_exit}
 use Rattle.k_trace.specs.OperationLists.{AreEnded, OperationLists}
 

@@ -5,8 +5,8 @@ use Rattle.std.proofs.lemmas.List.{length-map, length-drop}
 use Rattle.std.specs.Fmt.{digits}
 use Rattle.std.specs.List.{list_all}
 use Rattle.std.specs.Str.{bytes_eq}
-use Rattle.k_types.specs.declared.op.Op.{Op}
-use Rattle.k_types.specs.TraceRules.{IsBuilt}
+use Rattle.k_limits.specs.k_types.declared.op.Op.{Op}
+use Rattle.k_limits.specs.k_types.TraceRules.{IsBuilt}
 use Rattle.k_words.specs.Words.{Text, word_at}
 use Rattle.k_words.specs.Numbers.{is_below, value}
 use Rattle.k_words.specs.Names.{is_keyword, declares, number_of}
@@ -25,7 +25,7 @@ use Rattle.k_trace.proofs.OpForms.{two, three, five, number_below, AreNamed, op_
 use Rattle.k_trace.proofs.Steps.{at_place, root_row, limit_row, Step, OfVersion, OfKernel, OfType, OfRoot, OfLimit, OfProc, OfShared, OfOperation}
 use Rattle.k_trace.specs.declared.reasons.Reason.{Reason}
 use Rattle.k_trace.specs.declared.reasons.Reason.TheVariants.{NoForm}
-use Rattle.k_base.proofs.Tests.{neither}
+use Rattle.k_limits.proofs.Tests.{neither}
 
 pub not_true : (b : Bool) → not b ≡ true → b ≡ false
 not_true true e = absurd cc

@@ -3,13 +3,13 @@ use Rattle.std.proofs.Common.{◌≡◌, ◌∙◌, ◌⊎◌, ℕ, ◌+◌, ◌
 use Rattle.std.proofs.lemmas.Bool.{cases_lt}
 use Rattle.std.proofs.lemmas.List.{get_or_append_left, append-nil, map-append}
 use Rattle.std.proofs.Math.Seq.{get_or-append_seam}
-use Rattle.k_types.specs.declared.names.Field.{Field}
-use Rattle.k_types.specs.declared.names.LimitId.{LimitId}
-use Rattle.k_types.specs.declared.setup.LimitRow.{LimitRow}
-use Rattle.k_types.specs.declared.op.Op.{Op}
-use Rattle.k_types.specs.Trace.{operations_of, row_of, no_row}
-use Rattle.k_types.specs.Steps.{in_range}
-use Rattle.k_types.specs.TraceRules.{AreOperations, IsBuilt, IsTree, is_of_version, is_spelled}
+use Rattle.k_limits.specs.k_types.declared.names.Field.{Field}
+use Rattle.k_limits.specs.k_types.declared.names.LimitId.{LimitId}
+use Rattle.k_limits.specs.k_types.declared.setup.LimitRow.{LimitRow}
+use Rattle.k_limits.specs.k_types.declared.op.Op.{Op}
+use Rattle.k_limits.specs.k_types.Trace.{operations_of, row_of, no_row}
+use Rattle.k_limits.specs.k_types.Steps.{in_range}
+use Rattle.k_limits.specs.k_types.TraceRules.{AreOperations, IsBuilt, IsTree, is_of_version, is_spelled}
 use Rattle.k_words.specs.Words.{Text}
 use Rattle.k_words.specs.Names.{is_name, declares}
 use Rattle.k_trace.specs.declared.place.Place.{Place}
@@ -20,7 +20,7 @@ use Rattle.k_trace.specs.Grown.{blank, fits, has_exit, with_version, with_kernel
 use Rattle.k_trace.specs.Judgement.{SoFar, has_process}
 use Rattle.k_trace.proofs.Steps.{version_words, kernel_words, root_row, limit_row, VersionStep, KernelStep, TypeStep, RootStep, LimitStep, ProcStep, SharedStep, OperationStep, Step, OfVersion, OfKernel, OfType, OfRoot, OfLimit, OfProc, OfShared, OfOperation}
 use Rattle.k_limits.proofs.Reserves.{row_before}
-use Rattle.k_base.proofs.Lists.{length_push}
+use Rattle.k_limits.proofs.Lists.{length_push}
 use Rattle.k_trace.proofs.Pushed.{AreNames_push, AreNames_nil, AreNames_front, neither_declares, declarations_push, declarations_same, word_before}
 use Rattle.k_trace.proofs.Readers.{few_push}
 use Rattle.k_trace.proofs.OpLists.{lines_push}

@@ -1,12 +1,12 @@
 -- What the lines so far keep.
 use Rattle.std.proofs.Common.{◌≡◌, ℕ, ◌^◌, ◌<◌, ◌≤◌, true, List, [], ◌∷◌, ◌++◌, length, get_or, None}
-use Rattle.k_types.specs.declared.names.Field.{Field}
-use Rattle.k_types.specs.declared.names.LimitId.{LimitId}
-use Rattle.k_types.specs.declared.setup.LimitRow.{LimitRow}
-use Rattle.k_types.specs.Types.{HaveFewFields, object_size}
-use Rattle.k_types.specs.Trace.{row_of}
-use Rattle.k_types.specs.TraceRules.{AreOperations, IsBuilt, IsTree}
-use Rattle.k_types.specs.Limits.{max_of}
+use Rattle.k_limits.specs.k_types.declared.names.Field.{Field}
+use Rattle.k_limits.specs.k_types.declared.names.LimitId.{LimitId}
+use Rattle.k_limits.specs.k_types.declared.setup.LimitRow.{LimitRow}
+use Rattle.k_limits.specs.k_types.Types.{HaveFewFields, object_size}
+use Rattle.k_limits.specs.k_types.Trace.{row_of}
+use Rattle.k_limits.specs.k_types.TraceRules.{AreOperations, IsBuilt, IsTree}
+use Rattle.k_limits.specs.k_types.Limits.{max_of}
 use Rattle.k_words.specs.Words.{Text}
 use Rattle.k_trace.specs.declared.place.Place.{Place}
 use Rattle.k_trace.specs.declared.place.Place.TheVariants.{Version, Kernel, Types, Limits, Procs, Shared, Operations}

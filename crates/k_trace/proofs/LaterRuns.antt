@@ -1,11 +1,11 @@
 -- The limits, processes and shared heaps of a trace are a run.
 use Rattle.std.proofs.Common.{◌≡◌, ◌∙◌, ◌⊎◌, ℕ, ◌+◌, ◌^◌, ◌<◌, ◌≤◌, true, not, ◌||◌, List, [], ◌∷◌, ◌++◌, length, map, Option, Some, None, refl, sym, ap, subst, arith, inl, inr, append_assoc}
 use Rattle.std.proofs.lemmas.List.{length-append, append-nil}
-use Rattle.k_types.specs.declared.names.LimitId.{LimitId}
-use Rattle.k_types.specs.declared.setup.LimitRow.{LimitRow}
-use Rattle.k_types.specs.declared.op.Op.{Op}
-use Rattle.k_types.specs.Trace.{row_of}
-use Rattle.k_types.specs.TraceRules.{IsTree}
+use Rattle.k_limits.specs.k_types.declared.names.LimitId.{LimitId}
+use Rattle.k_limits.specs.k_types.declared.setup.LimitRow.{LimitRow}
+use Rattle.k_limits.specs.k_types.declared.op.Op.{Op}
+use Rattle.k_limits.specs.k_types.Trace.{row_of}
+use Rattle.k_limits.specs.k_types.TraceRules.{IsTree}
 use Rattle.k_words.specs.Words.{Text}
 use Rattle.k_words.specs.Names.{declares}
 use Rattle.k_trace.specs.declared.place.Place.{Place}
@@ -16,7 +16,7 @@ use Rattle.k_trace.specs.Spelling.{declarations, limit_words, proc_words, shared
 use Rattle.k_trace.specs.Grown.{fits, with_limit, with_proc, with_shared}
 use Rattle.k_trace.specs.Judgement.{SoFar}
 use Rattle.k_trace.proofs.OpRules.{none_each}
-use Rattle.k_base.proofs.Lists.{length_push}
+use Rattle.k_limits.proofs.Lists.{length_push}
 use Rattle.k_trace.proofs.Again.{nor}
 use Rattle.k_trace.proofs.Reserved.{AllFit, fit_room}
 use Rattle.k_trace.proofs.Steps.{at_place, Step, OfProc, OfShared, Run}

@@ -2,10 +2,10 @@
 use Rattle.std.proofs.Common.{◌≡◌, ◌∙◌, ℕ, ◌<◌, ◌≤◌, ◌^◌, Bool, true, false, cond, ◌&&◌, eqb, ltb, List, [], ◌∷◌, length, drop, get_or, Result, Ok, Err, refl, sym, ap, subst, arith, codes}
 use Rattle.std.proofs.lemmas.Bool.{lt-ltb, eqb-true}
 use Rattle.std.specs.Str.{bytes_eq}
-use Rattle.k_types.specs.declared.op.Op.{Op}
-use Rattle.k_types.specs.declared.op.Op.TheVariants.{Collect, KCollect, Exit}
-use Rattle.k_types.specs.Steps.{in_range}
-use Rattle.k_types.specs.TraceRules.{is_spelled}
+use Rattle.k_limits.specs.k_types.declared.op.Op.{Op}
+use Rattle.k_limits.specs.k_types.declared.op.Op.TheVariants.{Collect, KCollect, Exit}
+use Rattle.k_limits.specs.k_types.Steps.{in_range}
+use Rattle.k_limits.specs.k_types.TraceRules.{is_spelled}
 use Rattle.k_words.specs.Words.{Text, word_at}
 use Rattle.k_words.specs.Numbers.{is_below, value, is_register, register}
 use Rattle.k_words.specs.Names.{declares, number_of}

@@ -4,10 +4,10 @@ use Rattle.std.proofs.lemmas.Bool.{cases_eq, ltb-true}
 use Rattle.std.proofs.lemmas.List.{length-append, append-nil, length-set}
 use Rattle.std.proofs.lemmas.List.Folds.{list_all-append}
 use Rattle.std.specs.List.{list_all}
-use Rattle.k_types.specs.declared.op.Op.{Op}
-use Rattle.k_types.specs.Trace.{Trace, operations_of}
-use Rattle.k_types.specs.Steps.{in_range}
-use Rattle.k_types.specs.TraceRules.{EndsWithExit, is_exit, is_of_version, is_spelled}
+use Rattle.k_limits.specs.k_types.declared.op.Op.{Op}
+use Rattle.k_limits.specs.k_types.Trace.{Trace, operations_of}
+use Rattle.k_limits.specs.k_types.Steps.{in_range}
+use Rattle.k_limits.specs.k_types.TraceRules.{EndsWithExit, is_exit, is_of_version, is_spelled}
 use Rattle.k_words.specs.Words.{Text}
 use Rattle.k_words.proofs.Spelled.{both}
 use Rattle.k_trace.specs.declared.place.Place.{Place}

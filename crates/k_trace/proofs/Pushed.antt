@@ -5,7 +5,7 @@ use Rattle.std.proofs.lemmas.List.{get_or_append_left, length-append}
 use Rattle.std.proofs.Math.Seq.{get_or-append_seam}
 use Rattle.k_words.specs.Words.{Text, word_at}
 use Rattle.k_words.specs.Names.{is_name, declares}
-use Rattle.k_base.proofs.Lists.{length_push}
+use Rattle.k_limits.proofs.Lists.{length_push}
 use Rattle.k_words.proofs.Again.{declares-at}
 use Rattle.k_trace.specs.Rules.{AreNames}
 use Rattle.k_trace.specs.Spelling.{declarations}

@@ -2,13 +2,13 @@
 use Rattle.std.proofs.Common.{◌≡◌, ◌∙◌, ℕ, ◌<◌, ◌^◌, Bool, true, false, not, ◌||◌, List, [], ◌∷◌, ◌++◌, length, replicate, Option, Some, None, is_some, cond, ltb, refl, sym, ap, arith}
 use Rattle.std.proofs.lemmas.Bool.{and_parts, ltb-true}
 use Rattle.std.proofs.lemmas.List.{get_or-replicate}
-use Rattle.k_types.specs.declared.setup.LimitRow.{LimitRow}
+use Rattle.k_limits.specs.k_types.declared.setup.LimitRow.{LimitRow}
 use Rattle.k_words.specs.Words.{Text}
 use Rattle.k_words.specs.Numbers.{is_number, is_below, value, below_of}
-use Rattle.k_types.specs.declared.names.LimitId.{LimitId}
-use Rattle.k_types.specs.State.{opening}
-use Rattle.k_types.specs.TraceRules.{IsTree}
-use Rattle.k_types.specs.Limits.{full_limit}
+use Rattle.k_limits.specs.k_types.declared.names.LimitId.{LimitId}
+use Rattle.k_limits.specs.k_types.State.{opening}
+use Rattle.k_limits.specs.k_types.TraceRules.{IsTree}
+use Rattle.k_limits.specs.k_types.Limits.{full_limit}
 use Rattle.k_limits.specs.Limits.{charged_limits, full_at}
 use Rattle.k_limits.specs.Rows.{uncharged, is_refused, first_refused}
 use Rattle.k_limits.proofs.MachineUses.{machine_fulls}
@@ -16,7 +16,7 @@ use Rattle.k_limits.proofs.Fits.{AllFit, use_uncharged, fit_more, none_refused}
 use Rattle.k_trace.specs.Grown.{bare_trace, fits, fits_by}
 use Rattle.k_trace.specs.Outcome.{AreReserved}
 use Rattle.k_trace.proofs.Steps.{root_row, limit_row}
-use Rattle.k_base.proofs.Maxima.{own_maxima}
+use Rattle.k_limits.proofs.Maxima.{own_maxima}
 use Rattle.k_trace.proofs.Keeps.{each_row, tree_push}
 
 -- the full limit of the tree is that of the machine

@@ -2,13 +2,13 @@
 use Rattle.std.proofs.Common.{◌≡◌, ◌∙◌, ℕ, zero, suc, ◌+◌, ◌*◌, ◌<◌, ◌≤◌, Bool, true, false, cond, not, ◌||◌, eqb, ltb, List, [], ◌∷◌, ◌++◌, length, find, Option, Some, None, refl, sym, ap, arith, inl, inr, eq-eqb, ne_eqb, length-append}
 use Rattle.std.proofs.lemmas.Bool.{cases_lt, cases_eq, le-ltb}
 use Rattle.std.proofs.lemmas.Bool.Decides.{nat_tests}
-use Rattle.k_types.specs.declared.setup.LimitRow.{LimitRow}
-use Rattle.k_types.specs.State.{opening}
-use Rattle.k_types.specs.Limits.{use_within, max_of, path_of, full_limit}
-use Rattle.k_types.specs.TraceRules.{IsTree}
+use Rattle.k_limits.specs.k_types.declared.setup.LimitRow.{LimitRow}
+use Rattle.k_limits.specs.k_types.State.{opening}
+use Rattle.k_limits.specs.k_types.Limits.{use_within, max_of, path_of, full_limit}
+use Rattle.k_limits.specs.k_types.TraceRules.{IsTree}
 use Rattle.k_limits.specs.Paths.{times_on}
-use Rattle.k_base.proofs.Sums.{bit}
-use Rattle.k_base.proofs.Maxima.{own_maxima}
+use Rattle.k_limits.proofs.Sums.{bit}
+use Rattle.k_limits.proofs.Maxima.{own_maxima}
 use Rattle.k_limits.proofs.Walks.{path_low, path_once}
 use Rattle.k_limits.proofs.Charges.{use_charged, use_deep}
 use Rattle.k_limits.proofs.Reserves.{reservation, use_before, use_last, tree_before, row_before}

@@ -2,12 +2,12 @@
 use Rattle.std.proofs.Common.{◌≡◌, ◌∙◌, ℕ, ◌+◌, ◌^◌, ◌<◌, ◌≤◌, Bool, true, false, not, ◌||◌, List, [], ◌∷◌, ◌++◌, length, Option, Some, None, refl, sym, ap, subst, arith, append_assoc}
 use Rattle.std.proofs.lemmas.List.{get_or_append_left, length-append, append-nil}
 use Rattle.std.proofs.Math.Seq.{get_or-append_seam}
-use Rattle.k_types.specs.declared.names.Field.{Field}
-use Rattle.k_types.specs.declared.names.LimitId.{LimitId}
-use Rattle.k_types.specs.declared.setup.LimitRow.{LimitRow}
-use Rattle.k_types.specs.Trace.{row_of, no_row}
-use Rattle.k_types.specs.TraceRules.{IsTree}
-use Rattle.k_types.specs.Limits.{max_of}
+use Rattle.k_limits.specs.k_types.declared.names.Field.{Field}
+use Rattle.k_limits.specs.k_types.declared.names.LimitId.{LimitId}
+use Rattle.k_limits.specs.k_types.declared.setup.LimitRow.{LimitRow}
+use Rattle.k_limits.specs.k_types.Trace.{row_of, no_row}
+use Rattle.k_limits.specs.k_types.TraceRules.{IsTree}
+use Rattle.k_limits.specs.k_types.Limits.{max_of}
 use Rattle.k_words.specs.Words.{Text, word_at}
 use Rattle.k_words.specs.Names.{is_name, declares, number_of}
 use Rattle.k_words.proofs.Spelled.{name_at}
@@ -18,7 +18,7 @@ use Rattle.k_trace.specs.Spelling.{declarations, type_words, limit_words}
 use Rattle.k_trace.specs.Grown.{fits, with_type, with_limit}
 use Rattle.k_trace.specs.Judgement.{SoFar}
 use Rattle.k_trace.proofs.OpForms.{number_below}
-use Rattle.k_base.proofs.Lists.{length_push}
+use Rattle.k_limits.proofs.Lists.{length_push}
 use Rattle.k_trace.proofs.Reserved.{AllFit, fit_none, fit_before}
 use Rattle.k_trace.proofs.Steps.{at_place, limit_row, Step, OfType, OfLimit, Run}
 

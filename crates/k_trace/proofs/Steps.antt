@@ -1,11 +1,11 @@
 -- What one line more is, and what it leads to.
 use Rattle.std.proofs.Common.{◌≡◌, ◌⊎◌, ℕ, ◌+◌, ◌*◌, ◌<◌, ◌≤◌, ◌^◌, Bool, true, false, not, ◌||◌, List, [], ◌∷◌, length, codes, decimal, Some, None}
-use Rattle.k_types.specs.declared.names.Field.{Field}
-use Rattle.k_types.specs.declared.setup.LimitRow.{LimitRow}
-use Rattle.k_types.specs.declared.op.Op.{Op}
-use Rattle.k_types.specs.Trace.{operations_of}
-use Rattle.k_types.specs.Steps.{in_range}
-use Rattle.k_types.specs.TraceRules.{IsBuilt, is_of_version, is_spelled}
+use Rattle.k_limits.specs.k_types.declared.names.Field.{Field}
+use Rattle.k_limits.specs.k_types.declared.setup.LimitRow.{LimitRow}
+use Rattle.k_limits.specs.k_types.declared.op.Op.{Op}
+use Rattle.k_limits.specs.k_types.Trace.{operations_of}
+use Rattle.k_limits.specs.k_types.Steps.{in_range}
+use Rattle.k_limits.specs.k_types.TraceRules.{IsBuilt, is_of_version, is_spelled}
 use Rattle.k_words.specs.Words.{Text}
 use Rattle.k_words.specs.Names.{is_name, declares}
 use Rattle.k_trace.specs.declared.place.Place.{Place}

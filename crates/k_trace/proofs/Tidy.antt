@@ -3,17 +3,17 @@ use Rattle.std.proofs.Common.{◌≡◌, ◌∙◌, ℕ, ◌+◌, ◌^◌, ◌<�
 use Rattle.std.proofs.lemmas.Bool.{ltb-true}
 use Rattle.std.proofs.lemmas.List.{get_or-append-add, length-append, length-map}
 use Rattle.std.specs.List.{list_all}
-use Rattle.k_types.specs.declared.names.Field.{Field}
-use Rattle.k_types.specs.declared.names.Field.TheVariants.{Ref, Int}
-use Rattle.k_types.specs.declared.op.Op.{Op}
-use Rattle.k_types.specs.declared.op.Op.TheVariants.{New, KNew, SNew, Store, Load, Move, Clear, Dir, Put, Get, Share, Freeze, Attach, Kill, Resize}
-use Rattle.k_types.specs.declared.names.TypeId.{TypeId}
-use Rattle.k_types.specs.declared.names.LimitId.{LimitId}
-use Rattle.k_types.specs.declared.names.Pid.{Pid}
-use Rattle.k_types.specs.declared.names.SharedId.{SharedId}
-use Rattle.k_types.specs.declared.names.Reg.{Reg}
-use Rattle.k_types.specs.Steps.{in_range}
-use Rattle.k_types.specs.TraceRules.{is_spelled}
+use Rattle.k_limits.specs.k_types.declared.names.Field.{Field}
+use Rattle.k_limits.specs.k_types.declared.names.Field.TheVariants.{Ref, Int}
+use Rattle.k_limits.specs.k_types.declared.op.Op.{Op}
+use Rattle.k_limits.specs.k_types.declared.op.Op.TheVariants.{New, KNew, SNew, Store, Load, Move, Clear, Dir, Put, Get, Share, Freeze, Attach, Kill, Resize}
+use Rattle.k_limits.specs.k_types.declared.names.TypeId.{TypeId}
+use Rattle.k_limits.specs.k_types.declared.names.LimitId.{LimitId}
+use Rattle.k_limits.specs.k_types.declared.names.Pid.{Pid}
+use Rattle.k_limits.specs.k_types.declared.names.SharedId.{SharedId}
+use Rattle.k_limits.specs.k_types.declared.names.Reg.{Reg}
+use Rattle.k_limits.specs.k_types.Steps.{in_range}
+use Rattle.k_limits.specs.k_types.TraceRules.{is_spelled}
 use Rattle.k_words.specs.Words.{Text, word_at}
 use Rattle.k_words.specs.Numbers.{register_word}
 use Rattle.k_words.proofs.Spelled.{both}

@@ -2,12 +2,12 @@
 use Rattle.std.proofs.Common.{◌≡◌, ◌∙◌, ℕ, suc, ◌+◌, ◌<◌, ◌≤◌, Bool, true, List, [], ◌∷◌, ◌++◌, length, map, Option, Some, None, Result, Ok, refl, sym, ap, subst, arith, inl, inr}
 use Rattle.std.proofs.lemmas.Bool.{le-leb}
 use Rattle.std.proofs.lemmas.List.{length-map, ext_get_or}
-use Rattle.k_types.specs.declared.names.Field.{Field}
-use Rattle.k_types.specs.declared.names.LimitId.{LimitId}
-use Rattle.k_types.specs.declared.setup.LimitRow.{LimitRow}
-use Rattle.k_types.specs.declared.op.Op.{Op}
-use Rattle.k_types.specs.Types.{HaveFewFields}
-use Rattle.k_types.specs.Trace.{Trace, operations_of, row_of}
+use Rattle.k_limits.specs.k_types.declared.names.Field.{Field}
+use Rattle.k_limits.specs.k_types.declared.names.LimitId.{LimitId}
+use Rattle.k_limits.specs.k_types.declared.setup.LimitRow.{LimitRow}
+use Rattle.k_limits.specs.k_types.declared.op.Op.{Op}
+use Rattle.k_limits.specs.k_types.Types.{HaveFewFields}
+use Rattle.k_limits.specs.k_types.Trace.{Trace, operations_of, row_of}
 use Rattle.k_words.specs.Words.{Text, lines_of}
 use Rattle.k_words.proofs.Proper.{lines_of_bytes}
 use Rattle.k_trace.specs.declared.place.Place.{Place}

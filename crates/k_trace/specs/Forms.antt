@@ -1,14 +1,14 @@
 -- The forms of an operation. Its words begin with the verb.
 use Rattle.std.specs.Prelude.{ℕ, ◌^◌, ◌==◌, ◌&&◌, ◌||◌, not, nat_lt, Bool, true, List, length, Result, Ok, Err, if◌then◌else◌, codes}
 use Rattle.std.specs.Str.{bytes_eq}
-use Rattle.k_types.specs.declared.names.Reg.{Reg}
-use Rattle.k_types.specs.declared.names.TypeId.{TypeId}
-use Rattle.k_types.specs.declared.names.LimitId.{LimitId}
-use Rattle.k_types.specs.declared.names.Pid.{Pid}
-use Rattle.k_types.specs.declared.names.SharedId.{SharedId}
-use Rattle.k_types.specs.Bounds.{maximum_below}
-use Rattle.k_types.specs.declared.op.Op.{Op}
-use Rattle.k_types.specs.declared.op.Op.TheVariants.{New, KNew, SNew, Store, Load, Move, Clear, Dir, Put, Get, Collect, KCollect, Share, Freeze, Attach, Exit, Kill, Resize}
+use Rattle.k_limits.specs.k_types.declared.names.Reg.{Reg}
+use Rattle.k_limits.specs.k_types.declared.names.TypeId.{TypeId}
+use Rattle.k_limits.specs.k_types.declared.names.LimitId.{LimitId}
+use Rattle.k_limits.specs.k_types.declared.names.Pid.{Pid}
+use Rattle.k_limits.specs.k_types.declared.names.SharedId.{SharedId}
+use Rattle.k_limits.specs.k_types.Bounds.{maximum_below}
+use Rattle.k_limits.specs.k_types.declared.op.Op.{Op}
+use Rattle.k_limits.specs.k_types.declared.op.Op.TheVariants.{New, KNew, SNew, Store, Load, Move, Clear, Dir, Put, Get, Collect, KCollect, Share, Freeze, Attach, Exit, Kill, Resize}
 use Rattle.k_words.specs.Words.{Text, word_at}
 use Rattle.k_words.specs.Numbers.{is_below, value, is_register, register}
 use Rattle.k_words.specs.Names.{declares, number_of}

@@ -1,14 +1,14 @@
 -- A trace with one line more.
 use Rattle.std.specs.Prelude.{ℕ, ◌+◌, Bool, true, false, List, [], ◌∷◌, ◌++◌, slice_set, Option, Some, None}
 use Rattle.std.specs.List.{list_any}
-use Rattle.k_types.specs.declared.names.Field.{Field}
-use Rattle.k_types.specs.declared.names.LimitId.{LimitId}
-use Rattle.k_types.specs.declared.setup.LimitRow.{LimitRow}
-use Rattle.k_types.specs.declared.op.Op.{Op}
-use Rattle.k_types.specs.Trace.{Trace, operations_of}
-use Rattle.k_types.specs.TraceRules.{is_exit}
-use Rattle.k_types.specs.State.{opening}
-use Rattle.k_types.specs.Limits.{full_limit}
+use Rattle.k_limits.specs.k_types.declared.names.Field.{Field}
+use Rattle.k_limits.specs.k_types.declared.names.LimitId.{LimitId}
+use Rattle.k_limits.specs.k_types.declared.setup.LimitRow.{LimitRow}
+use Rattle.k_limits.specs.k_types.declared.op.Op.{Op}
+use Rattle.k_limits.specs.k_types.Trace.{Trace, operations_of}
+use Rattle.k_limits.specs.k_types.TraceRules.{is_exit}
+use Rattle.k_limits.specs.k_types.State.{opening}
+use Rattle.k_limits.specs.k_types.Limits.{full_limit}
 use Rattle.k_words.specs.Words.{Text}
 use Rattle.k_trace.specs.Named.{NamedTrace, no_names}
 

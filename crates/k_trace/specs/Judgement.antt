@@ -2,12 +2,12 @@
 use Rattle.std.specs.Prelude.{◌≡◌, ℕ, ◌+◌, ◌*◌, ◌==◌, ◌&&◌, ◌||◌, not, nat_lt, nat_le, Bool, true, false, List, [], ◌∷◌, map, length, drop, Some, None, Result, Ok, Err, if◌then◌else◌, codes}
 use Rattle.std.specs.List.{list_all}
 use Rattle.std.specs.Str.{bytes_eq}
-use Rattle.k_types.specs.declared.names.Field.{Field}
-use Rattle.k_types.specs.declared.names.Field.TheVariants.{Ref, Int}
-use Rattle.k_types.specs.declared.names.LimitId.{LimitId}
-use Rattle.k_types.specs.declared.op.Op.{Op}
-use Rattle.k_types.specs.Bounds.{most_types, most_limits, most_processes, most_shared_heaps, most_operations, most_line_bytes, most_words, most_trace_bytes, maximum_below}
-use Rattle.k_types.specs.Trace.{operations_of}
+use Rattle.k_limits.specs.k_types.declared.names.Field.{Field}
+use Rattle.k_limits.specs.k_types.declared.names.Field.TheVariants.{Ref, Int}
+use Rattle.k_limits.specs.k_types.declared.names.LimitId.{LimitId}
+use Rattle.k_limits.specs.k_types.declared.op.Op.{Op}
+use Rattle.k_limits.specs.k_types.Bounds.{most_types, most_limits, most_processes, most_shared_heaps, most_operations, most_line_bytes, most_words, most_trace_bytes, maximum_below}
+use Rattle.k_limits.specs.k_types.Trace.{operations_of}
 use Rattle.k_words.specs.Words.{Text, lines_of, words_of, are_words, word_at, is_printable}
 use Rattle.k_words.specs.Numbers.{is_below, value}
 use Rattle.k_words.specs.Names.{is_name, is_keyword, declares, number_of}

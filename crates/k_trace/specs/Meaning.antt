@@ -1,6 +1,6 @@
 -- What a trace that was read says.
 use Rattle.std.specs.Prelude.{map}
-use Rattle.k_types.specs.Trace.{trace_of}
+use Rattle.k_limits.specs.k_types.Trace.{trace_of}
 use Rattle.k_trace.specs.declared.trace.Trace.{Trace}
 use Rattle.k_trace.specs.Named.{NamedTrace}
 

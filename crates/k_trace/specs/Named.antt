@@ -1,11 +1,11 @@
 -- A trace with the names that it declares.
 use Rattle.std.specs.Prelude.{List, []}
 use Rattle.k_words.specs.Words.{Text, word_at}
-use Rattle.k_types.specs.Trace.{Trace}
-use Rattle.k_types.specs.declared.names.TypeId.{TypeId}
-use Rattle.k_types.specs.declared.names.LimitId.{LimitId}
-use Rattle.k_types.specs.declared.names.Pid.{Pid}
-use Rattle.k_types.specs.declared.names.SharedId.{SharedId}
+use Rattle.k_limits.specs.k_types.Trace.{Trace}
+use Rattle.k_limits.specs.k_types.declared.names.TypeId.{TypeId}
+use Rattle.k_limits.specs.k_types.declared.names.LimitId.{LimitId}
+use Rattle.k_limits.specs.k_types.declared.names.Pid.{Pid}
+use Rattle.k_limits.specs.k_types.declared.names.SharedId.{SharedId}
 
 -- the names of the types, limits, processes and shared heaps, each by its number
 pub record DeclaredNames : Type 0 where

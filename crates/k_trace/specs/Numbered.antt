@@ -1,9 +1,9 @@
 -- The numbers of declared names, and what is kept of them.
 use Rattle.std.specs.Prelude.{ℕ, ◌<◌, ◌≤◌, List, length, Option, Some, None, if◌then◌else◌}
-use Rattle.k_types.specs.declared.names.TypeId.{TypeId}
-use Rattle.k_types.specs.declared.names.LimitId.{LimitId}
-use Rattle.k_types.specs.declared.names.Pid.{Pid}
-use Rattle.k_types.specs.declared.names.SharedId.{SharedId}
+use Rattle.k_limits.specs.k_types.declared.names.TypeId.{TypeId}
+use Rattle.k_limits.specs.k_types.declared.names.LimitId.{LimitId}
+use Rattle.k_limits.specs.k_types.declared.names.Pid.{Pid}
+use Rattle.k_limits.specs.k_types.declared.names.SharedId.{SharedId}
 use Rattle.k_words.specs.Words.{Text, word_at}
 use Rattle.k_words.specs.Names.{declares, number_of}
 use Rattle.k_trace.specs.Named.{DeclaredNames}

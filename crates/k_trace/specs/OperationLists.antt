@@ -1,6 +1,6 @@
 -- The operations of processes, and their order.
 use Rattle.std.specs.Prelude.{◌≡◌, ℕ, ◌<◌, Bool, false, List, [], ◌∷◌, ◌++◌, slice_set, slice_index_or}
-use Rattle.k_types.specs.declared.op.Op.{Op}
+use Rattle.k_limits.specs.k_types.declared.op.Op.{Op}
 use Rattle.k_trace.specs.Grown.{has_exit}
 
 -- the operations of each process, and the process of each operation in the order of the file

@@ -1,9 +1,9 @@
 -- What a call that can run out of memory answers.
 use Rattle.std.specs.Prelude.{◌≡◌, ℕ, ◌≤◌, List, length, None, Result, Ok, Err}
 use Rattle.k_io.specs.declared.errors.NoMemory.{NoMemory}
-use Rattle.k_types.specs.declared.names.Field.{Field}
-use Rattle.k_types.specs.declared.setup.LimitRow.{LimitRow}
-use Rattle.k_types.specs.Types.{HaveFewFields}
+use Rattle.k_limits.specs.k_types.declared.names.Field.{Field}
+use Rattle.k_limits.specs.k_types.declared.setup.LimitRow.{LimitRow}
+use Rattle.k_limits.specs.k_types.Types.{HaveFewFields}
 use Rattle.k_limits.specs.Rows.{AreRows, first_refused}
 use Rattle.k_trace.specs.declared.errors.LineError.{LineError}
 use Rattle.k_trace.specs.declared.errors.LineError.TheVariants as line

@@ -1,6 +1,6 @@
 -- Which traces have a spelling, and which bytes spell them.
 use Rattle.std.specs.Prelude.{◌≡◌, ◌≢◌, ℕ, ◌<◌, ◌≤◌, ◌++◌, List, length, IsTrue}
-use Rattle.k_types.specs.TraceRules.{KeepsRules}
+use Rattle.k_limits.specs.k_types.TraceRules.{KeepsRules}
 use Rattle.k_words.specs.Words.{Text, word_at, AreText}
 use Rattle.k_words.specs.Names.{is_name}
 use Rattle.k_trace.specs.Named.{NamedTrace}

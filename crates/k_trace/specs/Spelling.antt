@@ -1,12 +1,12 @@
 -- The one spelling of a trace.
 use Rattle.std.specs.Prelude.{ℕ, ◌==◌, Bool, true, false, List, [], ◌∷◌, ◌++◌, map, drop, decimal, codes, if◌then◌else◌, Option, Some, None}
-use Rattle.k_types.specs.declared.names.Field.{Field}
-use Rattle.k_types.specs.declared.names.Field.TheVariants.{Ref, Int}
-use Rattle.k_types.specs.declared.names.LimitId.{LimitId}
-use Rattle.k_types.specs.declared.setup.LimitRow.{LimitRow}
-use Rattle.k_types.specs.declared.op.Op.{Op}
-use Rattle.k_types.specs.declared.op.Op.TheVariants.{New, KNew, SNew, Store, Load, Move, Clear, Dir, Put, Get, Collect, KCollect, Share, Freeze, Attach, Exit, Kill, Resize}
-use Rattle.k_types.specs.Trace.{operations_of}
+use Rattle.k_limits.specs.k_types.declared.names.Field.{Field}
+use Rattle.k_limits.specs.k_types.declared.names.Field.TheVariants.{Ref, Int}
+use Rattle.k_limits.specs.k_types.declared.names.LimitId.{LimitId}
+use Rattle.k_limits.specs.k_types.declared.setup.LimitRow.{LimitRow}
+use Rattle.k_limits.specs.k_types.declared.op.Op.{Op}
+use Rattle.k_limits.specs.k_types.declared.op.Op.TheVariants.{New, KNew, SNew, Store, Load, Move, Clear, Dir, Put, Get, Collect, KCollect, Share, Freeze, Attach, Exit, Kill, Resize}
+use Rattle.k_limits.specs.k_types.Trace.{operations_of}
 use Rattle.k_words.specs.Words.{Text, word_at, text_of}
 use Rattle.k_words.specs.Numbers.{register_word}
 use Rattle.k_trace.specs.Named.{DeclaredNames, NamedTrace, type_name, limit_name, proc_name, shared_name}

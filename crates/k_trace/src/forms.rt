@@ -6,7 +6,7 @@ ghost use Rattle.k_trace.specs.Forms.{new_form, knew_form, snew_form, store_form
 use crate::names::Names;
 use crate::reasons::Reason;
 use crate::version::may_govern;
-use k_types::{MAXIMUM_BELOW, Op, Reg};
+use k_limits::{MAXIMUM_BELOW, Op, Reg};
 use k_words::{is, number, register, word, word_count};
 
 #[tactic(auto, unfolding(crate::specs::Forms::new_form, crate::specs::Demands::demands))]

@@ -6,7 +6,7 @@ ghost use Rattle.k_trace.specs.Rules.{AreNames};
 ghost use Rattle.k_trace.specs.Numbered.{type_named, limit_named, proc_named, shared_named};
 
 use k_io::NoMemory;
-use k_types::{LimitId, Pid, SharedId, TypeId};
+use k_limits::{LimitId, Pid, SharedId, TypeId};
 use k_words::NameList;
 use std::alloc::Global;
 use std::marker::Model;

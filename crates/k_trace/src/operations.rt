@@ -1,11 +1,11 @@
 //! The operations of each process, and their order in the file.
 ghost use Rattle.std.specs.Prelude.{◌≡◌, ◌<◌, ◌++◌, ◌∷◌, ◌||◌, [], length, map, OnOk, OnErr, slice_index_or};
-ghost use Rattle.k_types.specs.TraceRules.{is_exit};
+ghost use Rattle.k_limits.specs.k_types.TraceRules.{is_exit};
 ghost use Rattle.k_trace.specs.Grown.{has_exit};
 ghost use Rattle.k_trace.specs.OperationLists.{no_operations, with_no_operations, with_operation};
 
 use k_io::NoMemory;
-use k_types::{Op, Pid};
+use k_limits::{Op, Pid};
 use std::alloc::Global;
 use std::marker::Model;
 

@@ -1,6 +1,6 @@
 //! What the lines so far say, and the step to the next line.
 ghost use Rattle.std.specs.Prelude.{◌≡◌, ◌<◌, ◌≤◌, IfOk, OnOk, OnErr, IsTrue, IsFalse, drop, length, map, [], ◌∷◌, ◌++◌, ◌+◌};
-ghost use Rattle.k_types.specs.Bounds.{most_limits};
+ghost use Rattle.k_limits.specs.k_types.Bounds.{most_limits};
 ghost use Rattle.std.specs.List.{list_all};
 ghost use Rattle.k_words.specs.Words.{words_of};
 ghost use Rattle.k_trace.specs.Judgement.{start, past_version, version_line, kernel_line, is_field, field_of, type_line, root_line, limit_line, proc_line, shared_line, process_line, operation_line, later_line, line_of_types, line_of_limits, line_of_procs, line_in, judged_line, has_process};
@@ -18,7 +18,7 @@ use crate::rooms::has_room;
 use crate::trace::Trace;
 use crate::version::{FIRST_VERSION, is_version, version_of};
 use k_io::{NoMemory, push};
-use k_types::{
+use k_limits::{
     Field, LimitId, LimitRow, MAXIMUM_BELOW, MOST_LIMITS, MOST_LINE_BYTES, MOST_OPERATIONS,
     MOST_PROCESSES, MOST_SHARED_HEAPS, MOST_TYPES, MOST_WORDS, Op, Setup, TypeTable,
 };

@@ -1,7 +1,7 @@
 //! A trace is read, line by line, from its bytes.
 ghost use Rattle.std.specs.Prelude.{◌≡◌, ◌≤◌, ◌+◌, length, IfOk, IfErr};
-ghost use Rattle.k_types.specs.Bounds.{most_trace_bytes};
-ghost use Rattle.k_types.specs.TraceRules.{KeepsRules};
+ghost use Rattle.k_limits.specs.k_types.Bounds.{most_trace_bytes};
+ghost use Rattle.k_limits.specs.k_types.TraceRules.{KeepsRules};
 ghost use Rattle.k_words.specs.Words.{lines_of};
 ghost use Rattle.k_trace.specs.Judgement.{judged_lines};
 ghost use Rattle.k_trace.specs.Meaning.{meaning_of};
@@ -12,7 +12,7 @@ use crate::errors::{LineError, TraceError};
 use crate::reader::Reader;
 use crate::reasons::Reason;
 use crate::trace::Trace;
-use k_types::MOST_TRACE_BYTES;
+use k_limits::MOST_TRACE_BYTES;
 use k_words::next_line;
 use std::alloc::Global;
 

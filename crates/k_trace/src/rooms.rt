@@ -1,12 +1,11 @@
 //! Room for what a limit below the root reserves.
 ghost use Rattle.std.specs.Prelude.{◌≡◌, ◌<◌, ◌≤◌, ◌^◌, ◌||◌, not, length, IfOk};
-ghost use Rattle.k_types.specs.Bounds.{most_limits};
+ghost use Rattle.k_limits.specs.k_types.Bounds.{most_limits};
 ghost use Rattle.k_trace.specs.Grown.{fits};
 ghost use Rattle.k_trace.specs.Outcome.{AreReserved};
 
 use k_io::NoMemory;
-use k_limits::{LimitTree, MakeError};
-use k_types::{LimitId, LimitRow};
+use k_limits::{LimitId, LimitRow, LimitTree, MakeError};
 use std::alloc::Global;
 
 /// Whether a limit of so many bytes may be added below the parent: a soft one always, a hard one where

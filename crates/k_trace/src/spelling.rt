@@ -6,7 +6,7 @@ ghost use Rattle.k_trace.specs.NamedOps.{IsNamedOp};
 ghost use Rattle.k_words.specs.Spaced.{spaced};
 
 use crate::names::Names;
-use k_types::{Op, Reg};
+use k_limits::{Op, Reg};
 use k_words::LineBuffer;
 
 /// Adds a space and a register.

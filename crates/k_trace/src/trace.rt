@@ -1,6 +1,6 @@
 //! A trace that was read, with its names.
 use crate::names::Names;
-use k_types::{Op, Pid, Setup};
+use k_limits::{Op, Pid, Setup};
 
 /// What a text of a trace says.
 #[derive(Drop)]

@@ -1,5 +1,5 @@
 use Rattle.std.proofs.Common.{refl}
-use Rattle.k_space.proofs.AreaRows.{number_found}
+use Rattle.k_mark.proofs.AreaRows.{number_found}
 use Rattle.k_mark.specs.Sweeping.{swept_segment}
 use Rattle.k_areas.proofs.Found.{same_distinct, same_none, set_number, map_number, unmarked_numbers}
 use Rattle.k_areas.proofs.changes.numbers_alone_decide.Goals as goal

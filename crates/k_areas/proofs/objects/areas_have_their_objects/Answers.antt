@@ -1,11 +1,11 @@
 use Rattle.std.proofs.Common.{◌≡◌, ◌&&◌, Option, Some, None, refl, ap, ◌∙◌}
-use Rattle.k_types.specs.declared.names.Name.{Name}
-use Rattle.k_types.specs.Names.{name_eq}
-use Rattle.k_types.specs.State.{Object, refers}
-use Rattle.k_space.specs.Segments.{Row, object_of}
-use Rattle.k_space.specs.Areas.{row_of_name}
+use Rattle.k_mark.specs.k_types.declared.names.Name.{Name}
+use Rattle.k_mark.specs.k_types.Names.{name_eq}
+use Rattle.k_mark.specs.k_types.State.{Object, refers}
+use Rattle.k_mark.specs.k_space.Segments.{Row, object_of}
+use Rattle.k_mark.specs.k_space.Areas.{row_of_name}
 use Rattle.k_areas.specs.Shown.{some_refers}
-use Rattle.k_base.proofs.NameTests.{name_eq_refl}
+use Rattle.k_changes.proofs.NameTests.{name_eq_refl}
 use Rattle.k_areas.proofs.Foreign.{area_has}
 use Rattle.k_areas.proofs.Shown.{at_row, any_area}
 use Rattle.k_areas.proofs.objects.areas_have_their_objects.Goals as goal

@@ -3,7 +3,7 @@ use Rattle.k_types.specs.declared.names.Heap.TheVariants.{User}
 use Rattle.k_types.specs.Agree.{CellValue}
 use Rattle.k_mark.specs.Listening.{AreTold}
 use Rattle.k_agree.specs.Ending.{freed_objects}
-use Rattle.k_cell.specs.Changes.{freed_at}
+use Rattle.k_commit.specs.k_cell.Changes.{freed_at}
 use Rattle.k_collect.proofs.Alone.{can_end_met, can_sweep_met, ended_at_last}
 use Rattle.k_collect.proofs.Freed.{all_freed, fits_all, met_value}
 use Rattle.k_collect.proofs.ending.end_heap_telling.Goals as goal

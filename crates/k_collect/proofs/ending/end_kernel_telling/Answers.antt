@@ -3,7 +3,7 @@ use Rattle.k_types.specs.declared.names.Heap.TheVariants.{Kernel}
 use Rattle.k_types.specs.Agree.{CellValue}
 use Rattle.k_mark.specs.Listening.{AreTold}
 use Rattle.k_agree.specs.Ending.{freed_objects}
-use Rattle.k_cell.specs.Changes.{freed_at}
+use Rattle.k_commit.specs.k_cell.Changes.{freed_at}
 use Rattle.k_collect.proofs.Alone.{kernel_can_end_met, kernel_can_sweep_met, kernel_ended_at_last}
 use Rattle.k_collect.proofs.Freed.{all_freed, fits_all, kernel_met_value}
 use Rattle.k_collect.proofs.ending.end_kernel_telling.Goals as goal

@@ -1,11 +1,11 @@
 use Rattle.std.proofs.Common.{◌≡◌, ap, subst, ◌∙◌, vec_capacity}
 use Rattle.k_types.specs.declared.names.Heap.TheVariants.{User}
 use Rattle.k_types.specs.declared.names.Pid.{Pid}
-use Rattle.k_book.specs.Books.{book_entries}
-use Rattle.k_cell.specs.Changes.{HasGrayed}
+use Rattle.k_commit.specs.k_book.Books.{book_entries}
+use Rattle.k_commit.specs.k_cell.Changes.{HasGrayed}
 use Rattle.k_entry.specs.Copies.{IsCopied}
 use Rattle.k_entry.specs.Entries.{items_of, objects}
-use Rattle.k_heap.specs.Heaps.{HeapRecord}
+use Rattle.k_commit.specs.k_heap.Heaps.{HeapRecord}
 use Rattle.k_collect.specs.Graying.{is_counted_at}
 use Rattle.k_collect.proofs.Copied.{all_copied, walked_too}
 use Rattle.k_collect.proofs.graying.gray_entered.Goals as goal

@@ -1,5 +1,5 @@
 use Rattle.std.proofs.Common.{◌≡◌}
-use Rattle.k_cell.specs.Changes.{HasGrayed}
+use Rattle.k_commit.specs.k_cell.Changes.{HasGrayed}
 use Rattle.k_collect.proofs.Grayed.{held_by_first}
 use Rattle.k_collect.proofs.graying.gray_held.Given as goal
 

@@ -1,6 +1,6 @@
 use Rattle.std.proofs.Common.{vec_capacity}
 use Rattle.k_types.specs.declared.names.Heap.TheVariants.{Kernel}
-use Rattle.k_book.specs.Books.{book_entries}
+use Rattle.k_commit.specs.k_book.Books.{book_entries}
 use Rattle.k_collect.proofs.Copied.{all_copied, walked_too}
 use Rattle.k_collect.proofs.graying.gray_kernel_entered.Goals as goal
 

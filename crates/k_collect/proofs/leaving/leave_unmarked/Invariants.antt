@@ -1,5 +1,5 @@
 use Rattle.std.proofs.Common.{◌≡◌, length}
-use Rattle.k_book.specs.Calls.{ChangesEntries}
+use Rattle.k_commit.specs.k_book.Calls.{ChangesEntries}
 use Rattle.k_collect.proofs.Left.{IsLeaving}
 use Rattle.k_collect.proofs.leaving.leave_unmarked.Given as goal
 

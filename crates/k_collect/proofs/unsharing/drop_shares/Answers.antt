@@ -1,6 +1,6 @@
 use Rattle.std.proofs.Common.{◌≡◌, ◌<◌, get_or, sym, ap, subst, arith, ◌∙◌}
 use Rattle.k_types.specs.declared.names.Pid.{Pid}
-use Rattle.k_book.specs.Books.{BookRecord}
+use Rattle.k_commit.specs.k_book.Books.{BookRecord}
 use Rattle.k_shares.specs.Sharers.{LosesShare}
 use Rattle.k_collect.specs.Unsharing.{ways_left}
 use Rattle.k_collect.proofs.Unshared.{bytes_so_far, kept_means, lost_means, shares_so_far, unsharing_drops, unsharing_passes}

@@ -1,7 +1,7 @@
 use Rattle.std.proofs.Common.{◌≡◌, ◌-◌, length, option_map}
 use Rattle.k_types.specs.declared.names.Heap.TheVariants.{Kernel}
 use Rattle.k_types.specs.Names.{name_of}
-use Rattle.k_book.specs.Books.{book_entries}
+use Rattle.k_commit.specs.k_book.Books.{book_entries}
 use Rattle.k_entry.specs.Entries.{items_of}
 use Rattle.k_collect.proofs.Grayed.{IsGraying}
 use Rattle.k_collect.proofs.Walks.{passed_before}

@@ -1,8 +1,8 @@
 use Rattle.std.proofs.Common.{◌∙◌, ap, option_map, refl}
 use Rattle.k_types.specs.declared.names.Heap.TheVariants.{Kernel}
 use Rattle.k_types.specs.Names.{name_of}
-use Rattle.k_book.specs.Books.{book_pins}
-use Rattle.k_cell.specs.Holdings.{HoldingsValue}
+use Rattle.k_commit.specs.k_book.Books.{book_pins}
+use Rattle.k_commit.specs.k_cell.Holdings.{HoldingsValue}
 use Rattle.k_collect.proofs.Grayed.{counted_here, graying_begins, graying_ends, graying_goes_on, walk_shorter}
 use Rattle.k_collect.proofs.walking.walk_kernel_pinned.Goals as goal
 

@@ -2,9 +2,9 @@ use Rattle.std.proofs.Common.{◌∙◌, ap, option_map, refl}
 use Rattle.k_types.specs.declared.names.Heap.TheVariants.{User}
 use Rattle.k_types.specs.declared.names.Pid.{Pid}
 use Rattle.k_types.specs.Names.{name_of}
-use Rattle.k_book.specs.Books.{book_pins}
+use Rattle.k_commit.specs.k_book.Books.{book_pins}
 use Rattle.k_entry.specs.Entries.{first_object, items_of}
-use Rattle.k_heap.specs.Heaps.{HeapRecord}
+use Rattle.k_commit.specs.k_heap.Heaps.{HeapRecord}
 use Rattle.k_collect.proofs.Grayed.{counted_here, graying_begins, graying_ends, graying_goes_on, walk_shorter}
 use Rattle.k_collect.proofs.walking.walk_pinned.Goals as goal
 

@@ -1,7 +1,7 @@
 use Rattle.std.proofs.Common.{ap, subst, ◌∙◌}
 use Rattle.k_types.specs.declared.names.Heap.TheVariants.{Shared}
 use Rattle.k_tie.specs.Values.{NoteValue}
-use Rattle.k_agree.specs.Meeting.{Fits, met_note}
+use Rattle.k_book.specs.k_agree.Meeting.{Fits, met_note}
 use Rattle.k_commit.specs.Others.{of_shared, with_note}
 use Rattle.k_commit.proofs.Meetings.{told_by}
 use Rattle.k_commit.proofs.meeting.meet_shared.Goals as goal

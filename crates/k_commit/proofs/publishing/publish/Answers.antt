@@ -1,6 +1,6 @@
 use Rattle.std.proofs.Common.{◌≡◌, [], ◌∷◌, arith, length, subst, sym}
 use Rattle.std.proofs.lemmas.List.{nil_from_length}
-use Rattle.k_agree.specs.Committing.{journal_after, note_after}
+use Rattle.k_book.specs.k_agree.Committing.{journal_after, note_after}
 use Rattle.k_heap.specs.Heaps.{HeapRecord}
 use Rattle.k_commit.proofs.Tails.{IsPublishing, publishing_ends, publishing_goes_on, publishing_starts}
 use Rattle.k_commit.proofs.publishing.publish.Goals as goal

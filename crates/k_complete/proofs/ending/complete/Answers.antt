@@ -1,9 +1,9 @@
 use Rattle.std.proofs.Common.{refl, sym, ◌∙◌, subst, get_or, None}
 use Rattle.std.proofs.lemmas.Option.{slice_get-get_or}
 use Rattle.k_types.specs.Complete.{IsPrefixOf}
-use Rattle.k_process.specs.declared.process.Process.{Process}
-use Rattle.k_process.specs.Heaps.{value_of}
-use Rattle.k_process.specs.Standing.{IsNextOf}
+use Rattle.k_operate.specs.k_process.declared.process.Process.{Process}
+use Rattle.k_operate.specs.k_process.Heaps.{value_of}
+use Rattle.k_operate.specs.k_process.Standing.{IsNextOf}
 use Rattle.k_operate.specs.Adding.{known_to}
 use Rattle.k_complete.proofs.Grown.{prefix_by, prefix_trans}
 use Rattle.k_complete.proofs.PlacedKept.{completed, fewer_at, kept_all, kept_on, read_there}

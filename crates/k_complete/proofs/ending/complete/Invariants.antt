@@ -1,9 +1,9 @@
 use Rattle.std.proofs.Common.{◌≡◌, Some, length, slice_get}
-use Rattle.k_process.specs.declared.process.Process.{Process}
+use Rattle.k_operate.specs.k_process.declared.process.Process.{Process}
 use Rattle.k_types.specs.Complete.{IsPrefixOf}
 use Rattle.k_operate.specs.Adding.{known_to}
-use Rattle.k_process.specs.Heaps.{value_of}
-use Rattle.k_process.specs.Standing.{AllStand}
+use Rattle.k_operate.specs.k_process.Heaps.{value_of}
+use Rattle.k_operate.specs.k_process.Standing.{AllStand}
 use Rattle.k_complete.specs.Ended.{AreKeptBut}
 use Rattle.k_complete.proofs.PlacedKept.{left_of}
 use Rattle.k_complete.proofs.ending.complete.Given as goal

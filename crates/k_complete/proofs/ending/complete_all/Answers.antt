@@ -1,6 +1,6 @@
 use Rattle.std.proofs.Common.{◌<◌, sym, ◌∙◌, subst, arith, rules}
 use Rattle.std.proofs.lemmas.Option.{slice_get_within}
-use Rattle.k_process.specs.Heaps.{value_of}
+use Rattle.k_operate.specs.k_process.Heaps.{value_of}
 use Rattle.k_complete.proofs.Grown.{prefix_trans}
 use Rattle.k_complete.proofs.PlacedKept.{through_next}
 use Rattle.k_complete.proofs.ending.complete_all.Goals as goal

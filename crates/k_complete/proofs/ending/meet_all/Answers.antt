@@ -1,8 +1,8 @@
 use Rattle.std.proofs.Common.{sym, subst}
-use Rattle.k_process.specs.Heaps.{value_of}
-use Rattle.k_process.specs.Over.{BookEnds}
+use Rattle.k_operate.specs.k_process.Heaps.{value_of}
+use Rattle.k_operate.specs.k_process.Over.{BookEnds}
 use Rattle.k_complete.proofs.EndKept.{cells_met}
-use Rattle.k_process.proofs.Kept.{kernel_can_meet}
+use Rattle.k_operate.proofs.Kept.{kernel_can_meet}
 use Rattle.k_complete.proofs.ending.meet_all.Goals as goal
 
 pub meet_processes-requires : goal.meet_processes-requires

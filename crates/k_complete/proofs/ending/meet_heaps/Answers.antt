@@ -4,8 +4,8 @@ use Rattle.k_book.specs.Books.{BookRecord}
 use Rattle.k_shared.specs.SharedHeaps.{SharedRecord}
 use Rattle.k_complete.specs.Meetings.{HeapsAndBook, HeapsMet}
 use Rattle.k_complete.proofs.EndKept.{heap_met_list, one_heap_met}
-use Rattle.k_process.proofs.Kept.{set_below, shared_can_meet}
-use Rattle.k_process.proofs.Looped.{all_of}
+use Rattle.k_operate.proofs.Kept.{set_below, shared_can_meet}
+use Rattle.k_operate.proofs.Looped.{all_of}
 use Rattle.k_complete.proofs.ending.meet_heaps.Goals as goal
 
 pub loop-heap-init : goal.loop-heap-init

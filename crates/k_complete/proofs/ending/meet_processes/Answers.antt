@@ -1,11 +1,11 @@
 use Rattle.std.proofs.Common.{◌≡◌, ◌<◌, refl, sym, ap, ◌∙◌, subst, List, length, get_or, arith}
 use Rattle.std.proofs.lemmas.Option.{slice_get-get_or, slice_get_within}
 use Rattle.k_book.specs.Books.{BookRecord}
-use Rattle.k_process.specs.declared.process.Process.{Process}
+use Rattle.k_operate.specs.k_process.declared.process.Process.{Process}
 use Rattle.k_complete.specs.Meetings.{AreSameButNotes, ProcessesAndBook, ProcessesMet}
 use Rattle.k_complete.proofs.EndKept.{all_same, met_list, one_met, one_same}
-use Rattle.k_process.proofs.Kept.{heap_can_meet, set_below}
-use Rattle.k_process.proofs.Looped.{all_of}
+use Rattle.k_operate.proofs.Kept.{heap_can_meet, set_below}
+use Rattle.k_operate.proofs.Looped.{all_of}
 use Rattle.k_complete.proofs.ending.meet_processes.Goals as goal
 
 pub loop-process-init : goal.loop-process-init

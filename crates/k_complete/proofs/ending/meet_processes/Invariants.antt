@@ -1,5 +1,5 @@
 use Rattle.std.proofs.Common.{◌≡◌, ◌<◌, ℕ, Some, slice_get}
-use Rattle.k_process.specs.declared.process.Process.{Process}
+use Rattle.k_operate.specs.k_process.declared.process.Process.{Process}
 use Rattle.k_complete.specs.Meetings.{AreSameButNotes, ProcessesAndBook}
 use Rattle.k_complete.proofs.ending.meet_processes.Given as goal
 

@@ -1,9 +1,9 @@
 use Rattle.std.proofs.Common.{◌<◌, ◌∙◌, refl, sym, ap, subst, List, length, set, slice_get}
 use Rattle.std.proofs.lemmas.Option.{slice_get_within}
 use Rattle.k_types.specs.declared.names.Pid.{Pid}
-use Rattle.k_process.specs.declared.process.Process.{Process}
-use Rattle.k_process.specs.Heaps.{value_of}
-use Rattle.k_process.proofs.Looped.{all_of}
+use Rattle.k_operate.specs.k_process.declared.process.Process.{Process}
+use Rattle.k_operate.specs.k_process.Heaps.{value_of}
+use Rattle.k_operate.proofs.Looped.{all_of}
 use Rattle.k_operate.specs.Steps.{SparesOthers}
 use Rattle.k_complete.specs.Placed.{CanDoAt, CanKillAt, HasDoneAt, HasKilledAt}
 use Rattle.k_complete.proofs.PlacedKept.{can_do_next, can_kill_at, done_kill, done_next, read_there, same_target, spares_by, target}

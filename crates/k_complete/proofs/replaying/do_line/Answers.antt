@@ -1,7 +1,7 @@
 use Rattle.std.proofs.Common.{◌<◌, refl, sym, ◌∙◌, subst, None}
-use Rattle.k_process.specs.declared.process.Process.{Process}
-use Rattle.k_process.specs.Heaps.{value_of}
-use Rattle.k_process.specs.Standing.{ComesNext, IsNextOf, ProcessStands}
+use Rattle.k_operate.specs.k_process.declared.process.Process.{Process}
+use Rattle.k_operate.specs.k_process.Heaps.{value_of}
+use Rattle.k_operate.specs.k_process.Standing.{ComesNext, IsNextOf, ProcessStands}
 use Rattle.k_operate.specs.Steps.{HasPublishedAll}
 use Rattle.k_complete.proofs.LineKept.{line_can_do, line_can_meet, line_of_none, line_of_some, line_stands, line_there, read_met}
 use Rattle.k_complete.proofs.PlacedKept.{read_there}

@@ -1,9 +1,9 @@
 use Rattle.std.proofs.Common.{◌∙◌, ap, sym, subst}
 use Rattle.k_types.specs.declared.event.Event.TheVariants.{Absorbed}
 use Rattle.k_types.specs.declared.names.Heap.TheVariants.{Kernel}
-use Rattle.k_book.specs.Books.{BookRecord}
+use Rattle.k_commit.specs.k_book.Books.{BookRecord}
 use Rattle.k_commit.specs.Met.{CanMeet}
-use Rattle.k_shared.specs.SharedHeaps.{SharedRecord}
+use Rattle.k_commit.specs.k_shared.SharedHeaps.{SharedRecord}
 use Rattle.k_depart.proofs.Appended.{absorption_ends, absorption_lists, absorption_room, absorption_tables, met_to_absorb, shared_met}
 use Rattle.k_depart.proofs.absorbing.absorb.Goals as goal
 

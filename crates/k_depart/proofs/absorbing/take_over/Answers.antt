@@ -1,9 +1,9 @@
 use Rattle.std.proofs.Common.{◌<◌, ℕ, [], length, sym, subst}
 use Rattle.k_types.specs.declared.names.Seg.{Seg}
 use Rattle.k_agree.specs.Ending.{HasLeft}
-use Rattle.k_book.specs.Books.{BookRecord}
-use Rattle.k_cell.specs.Holdings.{HoldingsValue}
-use Rattle.k_shared.specs.SharedHeaps.{SharedRecord, holdings_of}
+use Rattle.k_commit.specs.k_book.Books.{BookRecord}
+use Rattle.k_commit.specs.k_cell.Holdings.{HoldingsValue}
+use Rattle.k_commit.specs.k_shared.SharedHeaps.{SharedRecord, holdings_of}
 use Rattle.k_depart.specs.Ending.{MarksAbsorbed}
 use Rattle.k_depart.specs.Exits.{AreEntered, HasCut, into_segment}
 use Rattle.k_depart.specs.Segments.{CanGive}

@@ -8,9 +8,9 @@ use Rattle.k_types.specs.Owners.{object_bytes}
 use Rattle.k_types.specs.State.{has_share}
 use Rattle.k_types.specs.Totals.{total}
 use Rattle.k_agree.specs.Ending.{HasLeft}
-use Rattle.k_book.specs.Books.{BookRecord}
-use Rattle.k_cell.specs.Holdings.{HoldingsValue}
-use Rattle.k_heap.specs.Heaps.{HeapRecord, holdings_of, own_segment}
+use Rattle.k_commit.specs.k_book.Books.{BookRecord}
+use Rattle.k_commit.specs.k_cell.Holdings.{HoldingsValue}
+use Rattle.k_commit.specs.k_heap.Heaps.{HeapRecord, holdings_of, own_segment}
 use Rattle.k_depart.specs.Charges.{bytes_shared, limit_in}
 use Rattle.k_depart.specs.Ending.{MarksEnded}
 use Rattle.k_depart.specs.Exits.{AreEntered, HasCut, into_segment}

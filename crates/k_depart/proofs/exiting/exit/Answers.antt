@@ -1,8 +1,8 @@
 use Rattle.std.proofs.Common.{◌∙◌, ap, sym, subst}
 use Rattle.k_types.specs.declared.names.Heap.TheVariants.{Kernel}
-use Rattle.k_book.specs.Books.{BookRecord}
+use Rattle.k_commit.specs.k_book.Books.{BookRecord}
 use Rattle.k_commit.specs.Met.{CanMeet}
-use Rattle.k_heap.specs.Heaps.{HeapRecord}
+use Rattle.k_commit.specs.k_heap.Heaps.{HeapRecord}
 use Rattle.k_depart.specs.Exiting.{exit_of}
 use Rattle.k_depart.proofs.Appended.{exit_counts, exit_ends, exit_lists, exit_room, exit_tables, met_to_exit, pid_kept}
 use Rattle.k_depart.proofs.exiting.exit.Goals as goal

@@ -6,9 +6,9 @@ use Rattle.k_types.specs.declared.names.Pid.{Pid}
 use Rattle.k_types.specs.declared.op.Op.{Op}
 use Rattle.k_agree.specs.Committing.{journal_after, note_after}
 use Rattle.k_agree.specs.GivingAway.{with_one_done}
-use Rattle.k_book.specs.Books.{BookRecord}
+use Rattle.k_commit.specs.k_book.Books.{BookRecord}
 use Rattle.k_commit.specs.Met.{CanMeet}
-use Rattle.k_heap.specs.Heaps.{HeapRecord}
+use Rattle.k_commit.specs.k_heap.Heaps.{HeapRecord}
 use Rattle.k_depart.proofs.Killed.{kill_ends, lists, met_to_end, own_counts, room, tables}
 use Rattle.k_depart.proofs.exiting.kill.Goals as goal
 

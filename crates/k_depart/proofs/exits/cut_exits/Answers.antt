@@ -2,7 +2,7 @@ use Rattle.std.proofs.Common.{◌==◌, ◌∙◌, sym, subst, eq-eqb}
 use Rattle.std.proofs.lemmas.Bool.{and_from}
 use Rattle.k_types.specs.Names.{name_among}
 use Rattle.k_agree.proofs.Swept.{among_kept}
-use Rattle.k_cell.specs.Holdings.{HoldingsValue}
+use Rattle.k_commit.specs.k_cell.Holdings.{HoldingsValue}
 use Rattle.k_depart.specs.Exits.{HasCut}
 use Rattle.k_depart.proofs.Leaving.{all_cut, cut_left, still_entered}
 use Rattle.k_depart.proofs.exits.cut_exits.Goals as goal

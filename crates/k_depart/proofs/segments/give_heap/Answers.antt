@@ -1,7 +1,7 @@
 use Rattle.std.proofs.Common.{◌+◌, subst}
 use Rattle.k_types.specs.declared.names.Pid.{Pid}
-use Rattle.k_cell.specs.Holdings.{HasGivenSegment}
-use Rattle.k_heap.specs.Heaps.{holdings_of, own_segment}
+use Rattle.k_commit.specs.k_cell.Holdings.{HasGivenSegment}
+use Rattle.k_commit.specs.k_heap.Heaps.{holdings_of, own_segment}
 use Rattle.k_depart.proofs.Given.{all_given, bytes_fit}
 use Rattle.k_depart.proofs.segments.give_heap.Goals as goal
 

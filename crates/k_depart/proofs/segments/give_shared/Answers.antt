@@ -1,7 +1,7 @@
 use Rattle.std.proofs.Common.{subst}
 use Rattle.k_types.specs.declared.names.Seg.{Seg}
-use Rattle.k_cell.specs.Holdings.{HasGivenSegment}
-use Rattle.k_shared.specs.SharedHeaps.{holdings_of}
+use Rattle.k_commit.specs.k_cell.Holdings.{HasGivenSegment}
+use Rattle.k_commit.specs.k_shared.SharedHeaps.{holdings_of}
 use Rattle.k_depart.proofs.Given.{all_given, bytes_fit}
 use Rattle.k_depart.proofs.segments.give_shared.Goals as goal
 

@@ -3,7 +3,7 @@ use Rattle.k_types.specs.declared.names.CellPhase.{CellPhase}
 use Rattle.k_types.specs.declared.names.CellPhase.TheVariants.{Idle}
 use Rattle.k_calls.proofs.Refused.{lacks}
 use Rattle.k_calls.specs.declared.errors.HostError.TheVariants.{Full, Phase}
-use Rattle.k_guests.specs.Serving.{basis_of}
+use Rattle.k_calls.specs.k_guests.Serving.{basis_of}
 use Rattle.k_ends.specs.Killing.{HasRoomToKill}
 use Rattle.k_ends.proofs.killing.ready_to_end.Goals as goal
 

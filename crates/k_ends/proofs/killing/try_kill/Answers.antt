@@ -3,7 +3,7 @@ use Rattle.k_types.specs.declared.names.Heap.TheVariants.{Kernel, Shared}
 use Rattle.k_types.specs.declared.op.Op.{Op}
 use Rattle.k_calls.specs.Adding.{HasOwnRoom}
 use Rattle.k_limits.proofs.Making.{handed_on}
-use Rattle.k_guests.specs.Serving.{basis_of}
+use Rattle.k_calls.specs.k_guests.Serving.{basis_of}
 use Rattle.k_ends.specs.Killing.{CanNotKill}
 use Rattle.k_ends.proofs.Killed.{due_alone, ends_this, never_one_now, reach_can}
 use Rattle.k_ends.proofs.killing.try_kill.Goals as goal

@@ -1,4 +1,4 @@
-use Rattle.k_guests.specs.Serving.{basis_of}
+use Rattle.k_calls.specs.k_guests.Serving.{basis_of}
 use Rattle.k_ends.proofs.killing.try_kill.Given as goal
 
 abbrev pub ghost-reached : goal.ghost-reached

@@ -7,7 +7,7 @@ use Rattle.k_calls.proofs.Refused.{lacks}
 use Rattle.k_ends.proofs.Collected.{orphan_there}
 use Rattle.k_calls.specs.Doing.{HasEventsLeft}
 use Rattle.k_ends.specs.Refusals.{CanNotBeginKernel}
-use Rattle.k_guests.specs.Serving.{basis_of}
+use Rattle.k_calls.specs.k_guests.Serving.{basis_of}
 use Rattle.k_calls.specs.declared.errors.HostError.TheVariants.{Full, Phase}
 use Rattle.k_ends.proofs.starting.try_begin_kernel.Goals as goal
 

@@ -4,7 +4,7 @@ use Rattle.k_types.specs.declared.names.CellPhase.TheVariants.{Marked}
 use Rattle.k_heap.specs.Heaps.{has_ended_in}
 use Rattle.k_calls.proofs.Refused.{lacks, lacks_lives}
 use Rattle.k_calls.specs.Doing.{HasEventsLeft}
-use Rattle.k_guests.specs.Serving.{basis_of}
+use Rattle.k_calls.specs.k_guests.Serving.{basis_of}
 use Rattle.k_calls.specs.declared.errors.HostError.TheVariants.{Ended, Full, Phase}
 use Rattle.k_ends.proofs.starting.try_end.Goals as goal
 

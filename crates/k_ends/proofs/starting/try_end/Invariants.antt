@@ -1,4 +1,4 @@
-use Rattle.k_guests.specs.Serving.{basis_of}
+use Rattle.k_calls.specs.k_guests.Serving.{basis_of}
 use Rattle.k_ends.proofs.starting.try_end.Given as goal
 
 abbrev pub ghost-do_end : goal.ghost-do_end

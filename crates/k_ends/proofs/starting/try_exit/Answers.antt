@@ -5,7 +5,7 @@ use Rattle.k_limits.proofs.Making.{handed_on}
 use Rattle.k_calls.proofs.Refused.{lacks}
 use Rattle.k_calls.specs.Doing.{HasEventsLeft}
 use Rattle.k_ends.specs.Refusals.{CanNotExit}
-use Rattle.k_guests.specs.Serving.{basis_of}
+use Rattle.k_calls.specs.k_guests.Serving.{basis_of}
 use Rattle.k_calls.specs.declared.errors.HostError.TheVariants.{Full, Phase}
 use Rattle.k_ends.proofs.starting.try_exit.Goals as goal
 

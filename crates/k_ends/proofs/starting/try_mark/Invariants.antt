@@ -1,4 +1,4 @@
-use Rattle.k_guests.specs.Serving.{basis_of}
+use Rattle.k_calls.specs.k_guests.Serving.{basis_of}
 use Rattle.k_ends.proofs.starting.try_mark.Given as goal
 
 abbrev pub ghost-do_mark : goal.ghost-do_mark

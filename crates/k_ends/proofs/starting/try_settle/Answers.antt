@@ -2,7 +2,7 @@ use Rattle.std.proofs.Common.{inl, inr}
 use Rattle.k_heap.specs.Heaps.{has_ended_in}
 use Rattle.k_calls.proofs.Refused.{lacks, lacks_lives}
 use Rattle.k_calls.specs.Doing.{HasEventsLeft}
-use Rattle.k_guests.specs.Serving.{basis_of}
+use Rattle.k_calls.specs.k_guests.Serving.{basis_of}
 use Rattle.k_calls.specs.declared.errors.HostError.TheVariants.{Ended, Full}
 use Rattle.k_ends.proofs.starting.try_settle.Goals as goal
 

@@ -2,7 +2,7 @@ use Rattle.std.proofs.Common.{inl, inr}
 use Rattle.k_limits.proofs.Making.{handed_on}
 use Rattle.k_calls.proofs.Refused.{lacks}
 use Rattle.k_ends.specs.Whole.{CanNotCollect, HasRoomToCollect}
-use Rattle.k_guests.specs.Serving.{basis_of}
+use Rattle.k_calls.specs.k_guests.Serving.{basis_of}
 use Rattle.k_calls.specs.declared.errors.HostError.TheVariants.{Full}
 use Rattle.k_ends.proofs.whole.try_collect.Goals as goal
 

@@ -6,7 +6,7 @@ use Rattle.k_shares.specs.Sharers.{lowest_orphan}
 use Rattle.k_calls.proofs.Refused.{lacks}
 use Rattle.k_ends.proofs.Collected.{orphan_there}
 use Rattle.k_ends.specs.Whole.{CanNotCollectKernel, HasRoomToCollect}
-use Rattle.k_guests.specs.Serving.{basis_of}
+use Rattle.k_calls.specs.k_guests.Serving.{basis_of}
 use Rattle.k_calls.specs.declared.errors.HostError.TheVariants.{Full, Phase}
 use Rattle.k_ends.proofs.whole.try_collect_kernel.Goals as goal
 

@@ -1,7 +1,7 @@
 use Rattle.std.proofs.Common.{◌<◌, ◌∙◌, sym, ap, subst, Some, arith}
 use Rattle.k_types.specs.declared.op.Op.TheVariants.{Kill}
-use Rattle.k_guests.specs.declared.guest.Guest.{Guest}
-use Rattle.k_guests.specs.Serving.{GuestServes, basis_of}
+use Rattle.k_ends.specs.k_guests.declared.guest.Guest.{Guest}
+use Rattle.k_ends.specs.k_guests.Serving.{GuestServes, basis_of}
 use Rattle.k_host.proofs.Called.{pid_of}
 use Rattle.k_host.proofs.Killed.{among}
 use Rattle.k_host.proofs.Split.{at_back, at_front, set_parts, set_parts_back}

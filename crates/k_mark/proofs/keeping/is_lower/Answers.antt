@@ -1,5 +1,5 @@
 use Rattle.std.proofs.Common.{◌≡◌, sym, ap, ◌∙◌}
-use Rattle.k_types.specs.State.{content_leads_to}
+use Rattle.k_laws.specs.k_types.State.{content_leads_to}
 use Rattle.k_space.specs.declared.body.Stored.{Stored}
 use Rattle.k_space.specs.Bounds.{is_covered}
 use Rattle.k_space.specs.Objects.{content_of}

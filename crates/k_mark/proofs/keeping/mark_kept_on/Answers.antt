@@ -1,9 +1,9 @@
 use Rattle.std.proofs.Common.{◌≡◌, ◌↔◌, Some, ◌+◌, List, [], length, true, false, refl, sym, ap, subst, ◌∙◌, arith}
 use Rattle.std.proofs.lemmas.List.{length-map}
 use Rattle.std.proofs.lemmas.Bool.{false≢true}
-use Rattle.k_base.proofs.Lists.{some_one}
-use Rattle.k_types.specs.declared.names.Name.{Name}
-use Rattle.k_types.specs.State.{Content}
+use Rattle.k_exit.proofs.BaseLists.{some_one}
+use Rattle.k_laws.specs.k_types.declared.names.Name.{Name}
+use Rattle.k_laws.specs.k_types.State.{Content}
 use Rattle.k_space.specs.Segments.{Black}
 use Rattle.k_space.specs.Areas.{AreaValue, HasDistinct, black_at, gray_at, marked_at, unmarked, with_row_of}
 use Rattle.k_space.specs.Visiting.{AreHeld}

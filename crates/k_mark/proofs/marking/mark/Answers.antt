@@ -1,6 +1,6 @@
 use Rattle.std.proofs.Common.{◌≡◌, ◌+◌, List, false, refl, sym, ap, subst, ◌∙◌, arith}
-use Rattle.k_base.proofs.Lists.{some_one}
-use Rattle.k_types.specs.State.{Content}
+use Rattle.k_exit.proofs.BaseLists.{some_one}
+use Rattle.k_laws.specs.k_types.State.{Content}
 use Rattle.k_space.specs.Visiting.{AreHeld}
 use Rattle.k_space.specs.Areas.{AreaValue, gray_at, unmarked}
 use Rattle.k_mark.proofs.Left.{left, black_work}

@@ -1,6 +1,6 @@
 use Rattle.std.proofs.Common.{◌≡◌, ◌+◌, List, Some, slice_get, get_or, count_by, refl, sym, ap, ◌∙◌, arith}
 use Rattle.std.proofs.lemmas.List.{take_all}
-use Rattle.k_types.specs.State.{Content}
+use Rattle.k_laws.specs.k_types.State.{Content}
 use Rattle.k_space.specs.Areas.{fields_at}
 use Rattle.k_space.specs.Objects.{content_of}
 use Rattle.k_space.specs.declared.body.Stored.TheVariants.{Null}

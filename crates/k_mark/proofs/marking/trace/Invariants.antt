@@ -1,5 +1,5 @@
 use Rattle.std.proofs.Common.{◌≡◌, ◌+◌, List, Some, take, count_by}
-use Rattle.k_types.specs.State.{Content}
+use Rattle.k_laws.specs.k_types.State.{Content}
 use Rattle.k_space.specs.Areas.{fields_at}
 use Rattle.k_mark.specs.Marking.{is_ref}
 use Rattle.k_mark.proofs.Traces.{TracedTo}

@@ -1,5 +1,5 @@
 use Rattle.std.proofs.Common.{List, refl, sym, ap, subst, ◌∙◌, arith}
-use Rattle.k_types.specs.declared.names.Name.{Name}
+use Rattle.k_laws.specs.k_types.declared.names.Name.{Name}
 use Rattle.k_space.specs.Segments.{SegmentValue}
 use Rattle.k_mark.proofs.SweepSteps.{goes_on, ends}
 use Rattle.k_mark.proofs.Telling.{IsTelling, one_less, telling_begins, telling_ends, telling_goes_on}

@@ -1,5 +1,5 @@
 use Rattle.std.proofs.Common.{◌≡◌, ◌+◌, ℕ, List, Some, None, ap, ◌∙◌, sum_by, slice_get, take, take_all, arith}
-use Rattle.k_base.proofs.Lists.{some_one}
+use Rattle.k_exit.proofs.BaseLists.{some_one}
 use Rattle.k_space.specs.Segments.{SegmentValue}
 use Rattle.k_space.specs.Areas.{segment_at, place_of}
 use Rattle.k_mark.specs.Listening.{dead_at, dead_in}

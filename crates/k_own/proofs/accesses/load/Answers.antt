@@ -3,7 +3,7 @@ use Rattle.k_types.specs.declared.names.Name.{Name}
 use Rattle.k_types.specs.declared.names.Pid.{Pid}
 use Rattle.k_types.specs.Names.{name_of}
 use Rattle.k_types.specs.Replies.{reference}
-use Rattle.k_cell.specs.Looks.{field_among}
+use Rattle.k_commit.specs.k_cell.Looks.{field_among}
 use Rattle.k_commit.specs.Changed.{HasSetRegister}
 use Rattle.k_own.proofs.Crossing.{load_away, load_base_held, load_can_set, load_changes}
 use Rattle.k_own.proofs.Due.{load_below}

@@ -5,8 +5,8 @@ use Rattle.k_types.specs.declared.op.Op.TheVariants.{Store}
 use Rattle.k_types.specs.Names.{name_of}
 use Rattle.k_types.specs.Replies.{is_ref}
 use Rattle.k_types.specs.State.{Refers}
-use Rattle.k_cell.specs.Changes.{with_exit_item, with_field}
-use Rattle.k_cell.specs.Looks.{field_among}
+use Rattle.k_commit.specs.k_cell.Changes.{with_exit_item, with_field}
+use Rattle.k_commit.specs.k_cell.Looks.{field_among}
 use Rattle.k_own.proofs.Crossing.{at_home, store_away, store_base_held, store_changes, store_entry_room, store_entry_small, store_exit_room, store_kind, store_refuses, store_value_held}
 use Rattle.k_own.proofs.Due.{store_below}
 use Rattle.k_own.proofs.accesses.store.Goals as goal

@@ -8,9 +8,9 @@ use Rattle.k_types.specs.declared.event.Reply.TheVariants.{Refused}
 use Rattle.k_types.specs.Names.{name_of}
 use Rattle.k_types.specs.Owners.{object_bytes}
 use Rattle.k_types.specs.Totals.{total}
-use Rattle.k_cell.specs.Changes.{next_in, with_body}
-use Rattle.k_cell.specs.Holdings.{HasObjectRoom}
-use Rattle.k_heap.specs.Heaps.{HeapRecord, holdings_of, own_segment}
+use Rattle.k_commit.specs.k_cell.Changes.{next_in, with_body}
+use Rattle.k_commit.specs.k_cell.Holdings.{HasObjectRoom}
+use Rattle.k_commit.specs.k_heap.Heaps.{HeapRecord, holdings_of, own_segment}
 use Rattle.k_commit.specs.Changed.{CanSetRegister, HasChanged, HasSetRegister}
 use Rattle.k_commit.specs.Charging.{HasCharged, IsFullFor}
 use Rattle.k_own.proofs.Allocated.{bytes_fit, can_set_new, new_changed, refused_changed, serial_left_now, size_is}

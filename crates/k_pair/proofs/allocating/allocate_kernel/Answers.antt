@@ -4,9 +4,9 @@ use Rattle.k_types.specs.declared.event.Reply.TheVariants.{Made, Refused}
 use Rattle.k_types.specs.declared.names.Name.{Name}
 use Rattle.k_types.specs.declared.op.Op.TheVariants.{KNew}
 use Rattle.k_types.specs.Names.{name_of}
-use Rattle.k_cell.specs.Changes.{next_in}
-use Rattle.k_cell.specs.Holdings.{HoldingsValue}
-use Rattle.k_heap.specs.Heaps.{HeapRecord}
+use Rattle.k_commit.specs.k_cell.Changes.{next_in}
+use Rattle.k_commit.specs.k_cell.Holdings.{HoldingsValue}
+use Rattle.k_commit.specs.k_heap.Heaps.{HeapRecord}
 use Rattle.k_commit.specs.Changed.{CanSetRegister, HasChangedWith, HasSetRegister}
 use Rattle.k_commit.proofs.Fitting.{other_bytes_small}
 use Rattle.k_commit.specs.Others.{of_kernel}

@@ -3,8 +3,8 @@ use Rattle.k_types.specs.declared.names.Phase.{Phase}
 use Rattle.k_types.specs.declared.names.Pid.{Pid}
 use Rattle.k_types.specs.Names.{name_of}
 use Rattle.k_types.specs.Replies.{is_populating}
-use Rattle.k_book.specs.Books.{BookRecord}
-use Rattle.k_heap.specs.Heaps.{HeapRecord}
+use Rattle.k_commit.specs.k_book.Books.{BookRecord}
+use Rattle.k_commit.specs.k_heap.Heaps.{HeapRecord}
 use Rattle.k_commit.specs.Charging.{HasCharged, IsFullFor}
 use Rattle.k_commit.proofs.Fitting.{charged_small, other_bytes_small}
 use Rattle.k_commit.specs.Others.{of_shared}

@@ -1,5 +1,5 @@
 use Rattle.std.proofs.Common.{◌<◌, length, subst, sym}
-use Rattle.k_book.specs.Books.{BookRecord}
+use Rattle.k_commit.specs.k_book.Books.{BookRecord}
 use Rattle.k_pair.proofs.Facts.{phase_there}
 use Rattle.k_pair.proofs.attaching.join.Goals as goal
 

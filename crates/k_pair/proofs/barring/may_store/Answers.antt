@@ -4,7 +4,7 @@ use Rattle.k_types.specs.declared.names.Heap.{Heap}
 use Rattle.k_types.specs.Agree.{book_shown_by}
 use Rattle.k_types.specs.Names.{name_of}
 use Rattle.k_types.specs.Replies.{first_fault, is_ref}
-use Rattle.k_cell.specs.Looks.{field_among, field_count_among}
+use Rattle.k_commit.specs.k_cell.Looks.{field_among, field_count_among}
 use Rattle.k_limits.proofs.Making.{handed_on}
 use Rattle.k_space.specs.Objects.{content_of}
 use Rattle.k_squares.specs.Answers.{is_frozen_in, passes_barrier_in}

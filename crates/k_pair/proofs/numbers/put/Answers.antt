@@ -1,6 +1,6 @@
 use Rattle.std.proofs.Common.{◌<◌, ap, sym, subst, ◌∙◌, Some, None}
 use Rattle.k_types.specs.Replies.{is_ref}
-use Rattle.k_cell.specs.Looks.{field_among, field_count_among}
+use Rattle.k_commit.specs.k_cell.Looks.{field_among, field_count_among}
 use Rattle.k_space.specs.Objects.{content_of}
 use Rattle.k_pair.proofs.Faulted.{told_by}
 use Rattle.k_pair.proofs.Put.{put_done, put_refused}

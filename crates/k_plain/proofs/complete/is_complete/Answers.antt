@@ -1,7 +1,7 @@
 use Rattle.std.proofs.Common.{List, map, ap, sym, ◌∙◌, Vec, Global}
 use Rattle.std.proofs.lemmas.Bool.{false≢true}
 use Rattle.k_types.specs.declared.op.Op.{Op}
-use Rattle.k_state.specs.Machines.{Machine}
+use Rattle.k_scan.specs.k_state.Machines.{Machine}
 use Rattle.k_plain.proofs.Completed.{complete_of, done_of, over_of, quiet_of}
 use Rattle.k_plain.proofs.complete.is_complete.Goals as goal
 

@@ -1,6 +1,6 @@
 use Rattle.std.proofs.Common.{◌≡◌, length}
 use Rattle.k_types.specs.Owners.{owner_of}
-use Rattle.k_state.proofs.Pools.{pool_below}
+use Rattle.k_scan.proofs.Pools.{pool_below}
 use Rattle.k_plain.proofs.counting.objects_of.Given as goal
 
 abbrev pub invariant-loop-s : goal.invariant-loop-s

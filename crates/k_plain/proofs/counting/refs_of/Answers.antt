@@ -8,8 +8,8 @@ use Rattle.k_types.specs.Owners.{owner_of}
 use Rattle.k_types.specs.State.{Object}
 use Rattle.k_types.specs.Totals.{total}
 use Rattle.k_types.specs.Trace.{segment_count}
-use Rattle.k_state.specs.Segments.{objects_in}
-use Rattle.k_state.proofs.Pools.{pool_all, pool_below, pool_few, pool_none, pool_other, pool_own}
+use Rattle.k_scan.specs.k_state.Segments.{objects_in}
+use Rattle.k_scan.proofs.Pools.{pool_all, pool_below, pool_few, pool_none, pool_other, pool_own}
 use Rattle.k_plain.specs.Owned.{references_in}
 use Rattle.k_plain.proofs.counting.refs_of.Goals as goal
 use Rattle.k_plain.proofs.counting.refs_of.Goals.{then-is_same_heap, else-is_same_heap}

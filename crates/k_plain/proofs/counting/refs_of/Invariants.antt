@@ -1,7 +1,7 @@
 use Rattle.std.proofs.Common.{◌≡◌, ◌*◌, ◌≤◌, length}
 use Rattle.k_types.specs.Owners.{owner_of}
 use Rattle.k_types.specs.Totals.{total}
-use Rattle.k_state.proofs.Pools.{pool_below}
+use Rattle.k_scan.proofs.Pools.{pool_below}
 use Rattle.k_plain.specs.Owned.{references_in}
 use Rattle.k_plain.proofs.counting.refs_of.Given as goal
 

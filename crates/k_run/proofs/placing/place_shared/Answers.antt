@@ -4,7 +4,7 @@ use Rattle.k_tie.specs.Values.{NoteValue}
 use Rattle.k_shared.specs.SharedHeaps.{SharedRecord}
 use Rattle.k_run.specs.Places.{HasPlacedShared}
 use Rattle.k_run.proofs.Gathered.{one_shared_number, placed_shared}
-use Rattle.k_process.proofs.Looped.{found_at}
+use Rattle.k_outcome.proofs.Looped.{found_at}
 use Rattle.k_run.proofs.placing.place_shared.Goals as goal
 
 pub apart-requires : goal.apart-requires

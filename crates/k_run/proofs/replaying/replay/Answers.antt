@@ -1,6 +1,6 @@
 use Rattle.std.proofs.Common.{[], sym, ap, ◌∙◌, subst}
 use Rattle.k_types.specs.Trace.{trace_of}
-use Rattle.k_process.specs.Heaps.{value_of}
+use Rattle.k_outcome.specs.k_process.Heaps.{value_of}
 use Rattle.k_outcome.specs.Ends.{journal_of}
 use Rattle.k_run.specs.Runs.{IsRunOf}
 use Rattle.k_run.proofs.Ended.{can_end, ended_run, setup_same}

@@ -1,9 +1,9 @@
 use Rattle.std.proofs.Common.{sym, subst}
 use Rattle.std.specs.Prelude.{IfOk}
 use Rattle.k_types.specs.Trace.{Trace}
-use Rattle.k_process.specs.Worlds.{WorldValue}
-use Rattle.k_process.specs.Heaps.{value_of}
-use Rattle.k_process.specs.Standing.{AllStand}
+use Rattle.k_outcome.specs.k_process.Worlds.{WorldValue}
+use Rattle.k_outcome.specs.k_process.Heaps.{value_of}
+use Rattle.k_outcome.specs.k_process.Standing.{AllStand}
 use Rattle.k_still.specs.Opening.{IsSetupOf}
 use Rattle.k_outcome.specs.Listed.{AreRoomsFor}
 use Rattle.k_trace.specs.Meaning.{meaning_of}

@@ -1,8 +1,8 @@
 use Rattle.std.proofs.Common.{◌≡◌, [], ap, sym, subst}
 use Rattle.k_types.specs.Trace.{trace_of}
 use Rattle.k_trace.specs.Named.{NamedTrace}
-use Rattle.k_process.specs.Heaps.{value_of}
-use Rattle.k_process.specs.Over.{IsOutcome, cells_of}
+use Rattle.k_outcome.specs.k_process.Heaps.{value_of}
+use Rattle.k_outcome.specs.k_process.Over.{IsOutcome, cells_of}
 use Rattle.k_outcome.specs.Ends.{EndValue}
 use Rattle.k_run.specs.Runs.{IsRunOf}
 use Rattle.k_run.specs.Worlds.{RunValue}

@@ -2,8 +2,8 @@ use Rattle.std.proofs.Common.{◌≡◌, [], Some, Option, ap, sym, subst}
 use Rattle.atomic_table.specs.Seated.{TableId}
 use Rattle.k_types.specs.Trace.{trace_of}
 use Rattle.k_trace.specs.Named.{NamedTrace}
-use Rattle.k_process.specs.Heaps.{value_of}
-use Rattle.k_process.specs.Over.{IsOutcome, cells_of}
+use Rattle.k_outcome.specs.k_process.Heaps.{value_of}
+use Rattle.k_outcome.specs.k_process.Over.{IsOutcome, cells_of}
 use Rattle.k_outcome.specs.Ends.{EndValue, journal_of}
 use Rattle.k_watch.specs.Shown.{HasWatched, WasShown}
 use Rattle.k_watch.specs.Values.{PenValue}

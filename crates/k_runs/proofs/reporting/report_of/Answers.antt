@@ -1,6 +1,6 @@
 use Rattle.std.proofs.Common.{sym, subst}
 use Rattle.k_text.specs.Named.{AreNamed}
-use Rattle.k_outcome.specs.Ends.{EndValue}
+use Rattle.k_run.specs.k_outcome.Ends.{EndValue}
 use Rattle.k_runs.proofs.reporting.report_of.Goals as goal
 
 pub report-requires : goal.report-requires

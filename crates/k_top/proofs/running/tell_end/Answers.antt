@@ -3,7 +3,7 @@ use Rattle.std.specs.Prelude.{IfOk}
 use Rattle.k_text.specs.Named.{AreNamed}
 use Rattle.k_io.specs.declared.errors.WriteFailed.{WriteFailed}
 use Rattle.k_io.proofs.Writings.{writes_same}
-use Rattle.k_outcome.specs.Ends.{EndValue, journal_of, last_state}
+use Rattle.k_run.specs.k_outcome.Ends.{EndValue, journal_of, last_state}
 use Rattle.k_text.specs.Report.{text_over}
 use Rattle.k_top.specs.declared.status.Status.TheVariants.{Good}
 use Rattle.k_top.specs.declared.run_error.RunError.{RunError}

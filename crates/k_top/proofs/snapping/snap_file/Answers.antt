@@ -2,7 +2,7 @@ use Rattle.std.proofs.Common.{Ok, ap, subst, sym}
 use Rattle.k_io.specs.declared.errors.WriteFailed.{WriteFailed}
 use Rattle.k_io.proofs.Writings.{writes_same}
 use Rattle.k_text.specs.Named.{AreNamed}
-use Rattle.k_outcome.specs.Ends.{EndValue, last_state}
+use Rattle.k_run.specs.k_outcome.Ends.{EndValue, last_state}
 use Rattle.k_audit.specs.Snapshots.{snapshot_text}
 use Rattle.k_top.specs.declared.status.Status.TheVariants.{Good}
 use Rattle.k_top.proofs.Answered.{answered_written}

@@ -1,8 +1,8 @@
 use Rattle.std.proofs.Common.{◌≡◌, option_map, ap, ◌∙◌}
-use Rattle.k_types.specs.declared.names.CellPhase.TheVariants.{Idle}
-use Rattle.k_types.specs.Names.{name_of}
-use Rattle.k_types.specs.Replies.{is_ref}
-use Rattle.k_types.specs.State.{Refers}
+use Rattle.k_areas.specs.k_types.declared.names.CellPhase.TheVariants.{Idle}
+use Rattle.k_areas.specs.k_types.Names.{name_of}
+use Rattle.k_areas.specs.k_types.Replies.{is_ref}
+use Rattle.k_areas.specs.k_types.State.{Refers}
 use Rattle.k_cell.specs.Holdings.{HoldingsValue}
 use Rattle.k_cell.specs.Looks.{field_among}
 use Rattle.k_cell.proofs.Seen.{ref_there, written_kept, written_seen}

@@ -1,7 +1,7 @@
 use Rattle.std.proofs.Common.{◌≡◌, sym, subst, ◌∙◌}
 use Rattle.std.proofs.lemmas.Bool.{false≢true}
-use Rattle.k_types.specs.State.{Holds}
-use Rattle.k_space.specs.Areas.{AreaValue, HasDistinct}
+use Rattle.k_areas.specs.k_types.State.{Holds}
+use Rattle.k_areas.specs.k_space.Areas.{AreaValue, HasDistinct}
 use Rattle.k_cell.specs.Placed.{IsIntAt, IsWrittenIn}
 use Rattle.k_cell.proofs.Rooted.{distinct_inside}
 use Rattle.k_cell.proofs.rooting.RootedArea.write_int_in.Goals as goal

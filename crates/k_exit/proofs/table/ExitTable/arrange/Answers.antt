@@ -2,8 +2,8 @@ use Rattle.std.proofs.Common.{◌≡◌, ◌+◌, ◌&&◌, List, Some, map, sli
 use Rattle.std.specs.List.Sorted.{IsPermutation}
 use Rattle.std.proofs.lemmas.List.Sorted.{IsPermutation-map, list_any-IsPermutation}
 use Rattle.std.proofs.lemmas.List.Sorted.{answers_always}
-use Rattle.k_types.specs.declared.names.Name.{Name}
-use Rattle.k_types.specs.Names.{name_eq}
+use Rattle.k_base.specs.k_types.declared.names.Name.{Name}
+use Rattle.k_base.specs.k_types.Names.{name_eq}
 use Rattle.k_exit.specs.declared.chains.Item.{Item}
 use Rattle.k_exit.specs.Chains.{row_of, blank}
 use Rattle.k_exit.specs.Exits.{ExitRow, ExitList, AreDistinct}

@@ -1,11 +1,11 @@
 use Rattle.std.proofs.Common.{◌≡◌, refl, subst, length, arith, Some, slice_get, slice_set}
 use Rattle.std.specs.Prelude.{IfErr, IfOk}
 use Rattle.std.proofs.lemmas.Option.{slice_get_past}
-use Rattle.k_process.proofs.Looped.{found_at}
+use Rattle.k_ends.proofs.Looped.{found_at}
 use Rattle.k_ends.specs.HostError.TheVariants.{Unknown}
 use Rattle.k_host.specs.Calls.{HasAbsorbedIn}
 use Rattle.k_host.specs.Refusals.{MayRefuseAbsorption}
-use Rattle.k_guests.specs.Serving.{basis_of}
+use Rattle.k_ends.specs.k_guests.Serving.{basis_of}
 use Rattle.k_host.proofs.Called.{absorbed_in, absorption_reason, host_of}
 use Rattle.k_host.proofs.Hosts.{absorbed_kept, found_heap}
 use Rattle.k_host.proofs.Refused.{absorption_refused, absorption_unknown}

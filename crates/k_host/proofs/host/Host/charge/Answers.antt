@@ -2,8 +2,8 @@ use Rattle.std.proofs.Common.{◌≡◌, ◌∙◌, refl, sym, ap, subst, cond, 
 use Rattle.std.specs.Prelude.{option_map}
 use Rattle.std.proofs.lemmas.Bool.{not-true}
 use Rattle.k_agree.specs.GivingOnTheBook.{charged}
-use Rattle.k_guests.specs.declared.guest.Guest.{Guest}
-use Rattle.k_guests.specs.Serving.{basis_of}
+use Rattle.k_ends.specs.k_guests.declared.guest.Guest.{Guest}
+use Rattle.k_ends.specs.k_guests.Serving.{basis_of}
 use Rattle.k_host.specs.Asked.{charge_told}
 use Rattle.k_host.specs.Hosts.{HostValue}
 use Rattle.k_host.proofs.Called.{found_there, host_of}

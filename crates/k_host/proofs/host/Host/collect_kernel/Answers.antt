@@ -1,12 +1,12 @@
 use Rattle.std.proofs.Common.{◌≡◌, ◌≤◌, ◌∙◌, sym, ap, subst, Some, slice_get, slice_set, OnOk}
 use Rattle.std.specs.Prelude.{IfErr, IfOk}
-use Rattle.k_guests.specs.Objects.{objects_after}
+use Rattle.k_ends.specs.k_guests.Objects.{objects_after}
 use Rattle.k_limits.proofs.Making.{handed_on}
 use Rattle.k_host.specs.Calls.{HasCollectedKernelIn}
 use Rattle.k_ends.specs.Whole.{AreFreedLast, CanNotCollectKernel, HasCollectedKernel}
 use Rattle.k_host.specs.Hosts.{HostValue}
 use Rattle.k_host.specs.Refusals.{MayRefuse}
-use Rattle.k_guests.specs.Serving.{basis_of}
+use Rattle.k_ends.specs.k_guests.Serving.{basis_of}
 use Rattle.k_host.proofs.Called.{changed_event, found_here, found_there, host_of}
 use Rattle.k_host.proofs.Hosts.{both_kept, found_guest, host_pair_kernel}
 use Rattle.k_host.proofs.Refused.{refused, unknown}

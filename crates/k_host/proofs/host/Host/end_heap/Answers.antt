@@ -5,7 +5,7 @@ use Rattle.k_host.specs.Calls.{HasEndedIn}
 use Rattle.k_ends.specs.Collecting.{HasEnded}
 use Rattle.k_ends.specs.Refusals.{CanNotEnd}
 use Rattle.k_host.specs.Refusals.{MayRefuse}
-use Rattle.k_guests.specs.Serving.{basis_of}
+use Rattle.k_ends.specs.k_guests.Serving.{basis_of}
 use Rattle.k_host.proofs.Called.{changed_event, found_here, found_there, host_of}
 use Rattle.k_host.proofs.Hosts.{found_guest, host_pair, pair_kept}
 use Rattle.k_host.proofs.Refused.{refused, unknown}

@@ -5,7 +5,7 @@ use Rattle.k_host.specs.Calls.{HasExitedIn}
 use Rattle.k_ends.specs.Collecting.{HasExitedNow}
 use Rattle.k_ends.specs.Refusals.{CanNotExit}
 use Rattle.k_host.specs.Refusals.{MayRefuse}
-use Rattle.k_guests.specs.Serving.{basis_of}
+use Rattle.k_ends.specs.k_guests.Serving.{basis_of}
 use Rattle.k_host.proofs.Called.{changed_event, found_here, found_there, host_of}
 use Rattle.k_host.proofs.Hosts.{both_kept, found_guest, host_pair_kernel}
 use Rattle.k_host.proofs.Refused.{refused, unknown}

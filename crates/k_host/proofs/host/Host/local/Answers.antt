@@ -4,7 +4,7 @@ use Rattle.k_limits.proofs.Making.{handed_on}
 use Rattle.k_host.specs.Calls.{HasDoneInsideIn, HasLeftOutside}
 use Rattle.k_ends.specs.CallsRefusals.{CanNotDoInside}
 use Rattle.k_host.specs.Refusals.{MayRefuse}
-use Rattle.k_guests.specs.Serving.{basis_of}
+use Rattle.k_ends.specs.k_guests.Serving.{basis_of}
 use Rattle.k_host.proofs.Called.{local_answered, found_here, found_there, host_of}
 use Rattle.k_host.proofs.Hosts.{found_guest, host_pair, local_kept, own_table}
 use Rattle.k_host.proofs.Refused.{refused, unknown}

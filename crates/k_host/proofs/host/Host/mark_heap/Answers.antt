@@ -5,7 +5,7 @@ use Rattle.k_host.specs.Calls.{HasMarkedIn}
 use Rattle.k_ends.specs.Collecting.{HasMarkedGuest}
 use Rattle.k_ends.specs.Refusals.{CanNotMark}
 use Rattle.k_host.specs.Refusals.{MayRefuse}
-use Rattle.k_guests.specs.Serving.{basis_of}
+use Rattle.k_ends.specs.k_guests.Serving.{basis_of}
 use Rattle.k_host.proofs.Called.{changed_on, found_here, found_there, host_of}
 use Rattle.k_host.proofs.Hosts.{found_guest, host_pair, marked_kept, own_table}
 use Rattle.k_host.proofs.Refused.{refused, unknown}

@@ -1,6 +1,6 @@
 use Rattle.std.proofs.Common.{◌≡◌, sym, subst, Some, slice_get, slice_set}
 use Rattle.k_book.specs.Books.{BookRecord}
-use Rattle.k_guests.specs.Serving.{basis_of}
+use Rattle.k_ends.specs.k_guests.Serving.{basis_of}
 use Rattle.k_host.specs.Calls.{HasMetIn, HasMetTheJournal}
 use Rattle.k_host.specs.Hosts.{HostServes, HostValue}
 use Rattle.k_host.proofs.Called.{changed, found_there, host_of}

@@ -1,7 +1,7 @@
 use Rattle.std.proofs.Common.{◌≡◌, ◌∙◌, ◌++◌, sym, ap, subst, drop, take, length, List, OnErr, Some, slice_get, slice_set}
 use Rattle.std.specs.Prelude.{IfErr, IfOk}
-use Rattle.k_guests.specs.declared.guest.Guest.{Guest}
-use Rattle.k_guests.specs.Serving.{basis_of}
+use Rattle.k_ends.specs.k_guests.declared.guest.Guest.{Guest}
+use Rattle.k_ends.specs.k_guests.Serving.{basis_of}
 use Rattle.k_host.specs.Calls.{HasKilledIn, HasOperatedAs, HasOperatedIn}
 use Rattle.k_host.specs.Hosts.{HostValue}
 use Rattle.k_host.specs.Killing.{killed_among}

@@ -1,5 +1,5 @@
 use Rattle.std.proofs.Common.{◌∙◌, ap, length, arith}
-use Rattle.k_guests.specs.Serving.{basis_of}
+use Rattle.k_ends.specs.k_guests.Serving.{basis_of}
 use Rattle.k_host.specs.Hosts.{HostValue}
 use Rattle.k_host.proofs.Hosts.{few_guests}
 use Rattle.k_host.proofs.host.Host.processes.Goals as goal

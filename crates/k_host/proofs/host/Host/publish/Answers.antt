@@ -5,8 +5,8 @@ use Rattle.k_host.specs.Calls.{HasPublishedIn}
 use Rattle.k_ends.specs.Doing.{HasPublishedAll}
 use Rattle.k_ends.specs.CallsRefusals.{CanNotPublish}
 use Rattle.k_host.specs.Refusals.{MayRefuse}
-use Rattle.k_guests.specs.declared.guest.Guest.{Guest}
-use Rattle.k_guests.specs.Serving.{basis_of}
+use Rattle.k_ends.specs.k_guests.declared.guest.Guest.{Guest}
+use Rattle.k_ends.specs.k_guests.Serving.{basis_of}
 use Rattle.k_host.proofs.Called.{changed_on, found_here, found_there, host_of}
 use Rattle.k_host.proofs.Hosts.{found_guest, host_pair, pair_kept_on}
 use Rattle.k_host.proofs.Refused.{refused, unknown}

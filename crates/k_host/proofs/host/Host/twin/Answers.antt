@@ -2,7 +2,7 @@ use Rattle.std.proofs.Common.{◌≡◌, subst}
 use Rattle.std.specs.Prelude.{IfOk}
 use Rattle.k_solo.proofs.Lines.{setup_rules}
 use Rattle.k_host.specs.Hosts.{HostValue}
-use Rattle.k_guests.specs.Serving.{open_trace}
+use Rattle.k_ends.specs.k_guests.Serving.{open_trace}
 use Rattle.k_host.specs.Twins.{first_twin}
 use Rattle.k_host.proofs.host.Host.twin.Goals as goal
 

@@ -1,5 +1,5 @@
 use Rattle.std.proofs.Common.{◌<◌, ◌≤◌, ◌∙◌, subst, length}
-use Rattle.k_guests.specs.Serving.{basis_of}
+use Rattle.k_ends.specs.k_guests.Serving.{basis_of}
 use Rattle.k_host.specs.Hosts.{HostValue}
 use Rattle.k_host.proofs.Hosts.{limit_not_there, limit_there}
 use Rattle.k_host.proofs.host.Host.use_of.Goals as goal

@@ -1,5 +1,5 @@
 use Rattle.std.proofs.Common.{◌≡◌, ◌+◌, length, sym, ap, ap₂, subst, ◌∙◌, arith}
-use Rattle.k_space.specs.Objects.{BodyValue, new_directory}
+use Rattle.k_cell.specs.k_space.Objects.{BodyValue, new_directory}
 use Rattle.k_cell.specs.Changes.{with_body}
 use Rattle.k_cell.specs.Holdings.{HoldingsValue, HasObjectRoom, fresh_holdings}
 use Rattle.k_kernel.proofs.Shown.{opened_seen, serial_left}

@@ -2,7 +2,7 @@ use Rattle.std.proofs.Common.{subst, sym}
 use Rattle.k_types.specs.declared.event.Event.TheVariants.{Done}
 use Rattle.k_types.specs.Steps.{IsPossible}
 use Rattle.k_types.specs.Replies.{reply_to}
-use Rattle.k_state.specs.Machines.{Machine}
+use Rattle.k_scan.specs.k_state.Machines.{Machine}
 use Rattle.k_plain.proofs.Moved.{operated_sound}
 use Rattle.k_plain.proofs.state.PlainState.operate.Goals as goal
 

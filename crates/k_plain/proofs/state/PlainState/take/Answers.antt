@@ -1,6 +1,6 @@
 use Rattle.std.proofs.Common.{subst, sym}
 use Rattle.k_types.specs.Steps.{IsPossible}
-use Rattle.k_state.specs.Machines.{Machine}
+use Rattle.k_scan.specs.k_state.Machines.{Machine}
 use Rattle.k_plain.proofs.Moved.{stepped_sound}
 use Rattle.k_plain.proofs.state.PlainState.take.Goals as goal
 

@@ -1,6 +1,6 @@
 use Rattle.std.proofs.Common.{◌≡◌, ◌<◌, Some, List, is_some, refl, sym, ap, subst, ◌∙◌, set, length}
 use Rattle.k_space.specs.declared.segment.Cell.{Cell}
-use Rattle.k_types.specs.State.{Content, Holds}
+use Rattle.k_base.specs.k_types.State.{Content, Holds}
 use Rattle.k_space.specs.Objects.{BodyValue}
 use Rattle.k_space.specs.Segments.{Row, with_row}
 use Rattle.std.proofs.lemmas.Option.{slice_get_within}

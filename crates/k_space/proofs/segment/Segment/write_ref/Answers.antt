@@ -1,8 +1,8 @@
 use Rattle.std.proofs.Common.{◌≡◌, ◌<◌, Some, List, is_some, refl, sym, ap, subst, ◌∙◌, set, length, option_map}
 use Rattle.k_space.specs.declared.segment.Cell.{Cell}
-use Rattle.k_types.specs.State.{Content, Refers}
+use Rattle.k_base.specs.k_types.State.{Content, Refers}
 use Rattle.k_space.specs.Objects.{BodyValue}
-use Rattle.k_types.specs.Names.{name_of}
+use Rattle.k_base.specs.k_types.Names.{name_of}
 use Rattle.k_space.specs.Segments.{Row, with_row}
 use Rattle.std.proofs.lemmas.Option.{slice_get_within}
 use Rattle.k_space.proofs.Rows.{lies_in, same_cell, rewritten, rewritten_view}

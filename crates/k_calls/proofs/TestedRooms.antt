@@ -12,9 +12,9 @@ use Rattle.k_squares.specs.Touches.{other_cells_in}
 use Rattle.k_book.specs.Books.{BookRecord}
 use Rattle.k_bounds.specs.Counts.{is_store}
 use Rattle.k_cell.specs.Holdings.{HasObjectRoom, HoldingsValue}
-use Rattle.k_commit.specs.Changed.{bodies_after}
-use Rattle.k_commit.specs.Others.{of_shared}
-use Rattle.k_commit.specs.Rooms.{HasEventRoom, HasTableRoom}
+use Rattle.k_operate.specs.k_commit.Changed.{bodies_after}
+use Rattle.k_operate.specs.k_commit.Others.{of_shared}
+use Rattle.k_operate.specs.k_commit.Rooms.{HasEventRoom, HasTableRoom}
 use Rattle.k_heap.specs.Heaps.{HeapRecord, holdings_of as heap_holdings, own_segment}
 use Rattle.k_shared.specs.SharedHeaps.{SharedRecord, holdings_of as shared_holdings}
 use Rattle.k_space.specs.Objects.{BodyValue}
