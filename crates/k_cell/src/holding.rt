@@ -140,15 +140,15 @@ impl Holdings {
     }
 
     /// The number of the object's fields; 0 where there is no such object. Constant time.
-    pub fn field_count(&self, at: Name) -> u32
-        ensures { result ≡ field_count_among self.now.value.objects at }
+    pub fn field_count(&self, at: Link) -> u32
+        ensures { result ≡ field_count_among self.now.value.objects (name_of at) }
     {
         self.area.count_at(at)
     }
 
     /// What the field of the object holds; the number 0 where there is no such field. Constant time.
-    pub fn field(&self, at: Name, field: u32) -> Stored
-        ensures { content_of result ≡ field_among self.now.value.objects at field }
+    pub fn field(&self, at: Link, field: u32) -> Stored
+        ensures { content_of result ≡ field_among self.now.value.objects (name_of at) field }
     {
         self.area.field_at(at, field)
     }
@@ -222,21 +222,21 @@ impl Holdings {
 
     /// Writes a reference, or null, into the field of the object. It asks no write barrier, and adds no exit item: both are the
     /// caller's. Constant time, and no memory.
-    pub fn write_ref(&mut self, at: Name, field: u32, value: Option<Link>)
+    pub fn write_ref(&mut self, at: Link, field: u32, value: Option<Link>)
         requires idle { self.old.value.collection ≡ Idle }
-        requires kind { IsTrue (is_ref (field_among self.old.value.objects at field)) }
-        ensures { self.new ≡ record self.old { value = with_field at field (Refers (option_map name_of value)) self.old.value } }
+        requires kind { IsTrue (is_ref (field_among self.old.value.objects (name_of at) field)) }
+        ensures { self.new ≡ record self.old { value = with_field (name_of at) field (Refers (option_map name_of value)) self.old.value } }
     {
         self.area.write_ref_in(at, field, value);
-        self.carried.whole = still_whole(self.carried.whole, self.carried.bound, at);
+        self.carried.whole = still_whole(self.carried.whole, self.carried.bound, at.name());
     }
 
     /// Writes a number into the field of the object. Constant time, and no memory.
-    pub fn write_int(&mut self, at: Name, field: u32, value: u64)
+    pub fn write_int(&mut self, at: Link, field: u32, value: u64)
         requires idle { self.old.value.collection ≡ Idle }
-        requires there { field < field_count_among self.old.value.objects at }
-        requires kind { IsFalse (is_ref (field_among self.old.value.objects at field)) }
-        ensures { self.new ≡ record self.old { value = with_field at field (Holds value) self.old.value } }
+        requires there { field < field_count_among self.old.value.objects (name_of at) }
+        requires kind { IsFalse (is_ref (field_among self.old.value.objects (name_of at) field)) }
+        ensures { self.new ≡ record self.old { value = with_field (name_of at) field (Holds value) self.old.value } }
     {
         self.area.write_int_in(at, field, value);
     }

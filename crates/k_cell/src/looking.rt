@@ -1,12 +1,13 @@
-//! Look-ups of one object in an area, by its name, and of room for one more.
+//! Look-ups of one object in an area, by its name or by a reference with a hint of its slot, and of room for one more.
 ghost use Rattle.std.specs.Prelude.{◌≡◌, ◌↔◌, IsTrue, is_some, length, option_map, slice_index_or};
+ghost use Rattle.k_areas.specs.k_types.Names.{name_of};
 ghost use Rattle.k_areas.specs.k_types.State.{Holds};
 ghost use Rattle.k_areas.specs.k_space.Areas.{HasDistinct, row_of_name};
 ghost use Rattle.k_areas.specs.k_space.Objects.{content_of};
 ghost use Rattle.k_cell.specs.Looks.{row_fields, row_type};
 ghost use Rattle.k_cell.specs.Placed.{CanPlace};
 
-use k_areas::{Area, Name, Seg, Stored, TypeId};
+use k_areas::{Area, Link, Name, Seg, Stored, TypeId};
 
 /// Whether the object is there.
 pub(crate) fn lives_at(area: &Area, at: Name) -> bool
@@ -20,28 +21,28 @@ pub(crate) fn lives_at(area: &Area, at: Name) -> bool
 }
 
 /// The number of its fields; 0 where it is not there.
-pub(crate) fn count_at(area: &Area, at: Name) -> u32
+pub(crate) fn count_at(area: &Area, at: Link) -> u32
     requires { HasDistinct area.now.segments }
-    ensures { result ≡ length (row_fields (row_of_name area.now.segments at)) }
+    ensures { result ≡ length (row_fields (row_of_name area.now.segments (name_of at))) }
 {
     let Some(segment) = area.get(at.seg) else {
         return 0;
     };
-    let Some(slot) = segment.find(at.serial) else {
+    let Some(slot) = segment.find_near(at.serial, at.slot) else {
         return 0;
     };
     segment.field_count(slot)
 }
 
 /// What its field holds; 0 where there is no such field.
-pub(crate) fn field_at(area: &Area, at: Name, field: u32) -> Stored
+pub(crate) fn field_at(area: &Area, at: Link, field: u32) -> Stored
     requires { HasDistinct area.now.segments }
-    ensures { content_of result ≡ slice_index_or (row_fields (row_of_name area.now.segments at)) field (Holds 0) }
+    ensures { content_of result ≡ slice_index_or (row_fields (row_of_name area.now.segments (name_of at))) field (Holds 0) }
 {
     let Some(segment) = area.get(at.seg) else {
         return Stored::Holds(0);
     };
-    let Some(slot) = segment.find(at.serial) else {
+    let Some(slot) = segment.find_near(at.serial, at.slot) else {
         return Stored::Holds(0);
     };
     if field >= segment.field_count(slot) {

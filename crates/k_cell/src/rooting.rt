@@ -68,7 +68,7 @@ fn gray_all(area: &mut Area, targets: &[Name])
     ensures { area.new ≡ grayed_all area.old targets.now }
 {
     for target in targets {
-        area.make_gray(*target);
+        area.make_gray(target.link());
     }
 }
 
@@ -123,7 +123,7 @@ fn gray_others(area: &mut Area, noted: &[Name], roots: &[Name], bound: Bound)
         if bound.covers(*target) && stands_at(roots, met, *target) {
             met += 1;
         } else {
-            area.make_gray(*target);
+            area.make_gray(target.link());
         }
     }
 }
@@ -202,17 +202,17 @@ impl RootedArea {
     }
 
     /// The number of its fields; 0 where it is not there.
-    pub(crate) fn count_at(&self, at: Name) -> u32
+    pub(crate) fn count_at(&self, at: Link) -> u32
         requires { HasDistinct self.now.segments }
-        ensures { result ≡ length (row_fields (row_of_name self.now.segments at)) }
+        ensures { result ≡ length (row_fields (row_of_name self.now.segments (name_of at))) }
     {
         count_at(&self.area, at)
     }
 
     /// What its field holds; 0 where there is no such field.
-    pub(crate) fn field_at(&self, at: Name, field: u32) -> Stored
+    pub(crate) fn field_at(&self, at: Link, field: u32) -> Stored
         requires { HasDistinct self.now.segments }
-        ensures { content_of result ≡ slice_index_or (row_fields (row_of_name self.now.segments at)) field (Holds 0) }
+        ensures { content_of result ≡ slice_index_or (row_fields (row_of_name self.now.segments (name_of at))) field (Holds 0) }
     {
         field_at(&self.area, at, field)
     }
@@ -244,20 +244,20 @@ impl RootedArea {
     }
 
     /// Writes a reference field of an object.
-    pub(crate) fn write_ref_in(&mut self, at: Name, field: u32, value: Option<Link>)
+    pub(crate) fn write_ref_in(&mut self, at: Link, field: u32, value: Option<Link>)
         requires distinct { HasDistinct self.old.segments }
-        requires field { IsRefAt self.old.segments at field }
-        ensures { IsWrittenIn self.old self.new at field (Refers (option_map name_of value)) }
+        requires field { IsRefAt self.old.segments (name_of at) field }
+        ensures { IsWrittenIn self.old self.new (name_of at) field (Refers (option_map name_of value)) }
     {
         settle(&mut self.area, &mut self.noted, &mut self.all_noted);
         write_ref_in(&mut self.area, at, field, value);
     }
 
     /// Writes an integer field of an object.
-    pub(crate) fn write_int_in(&mut self, at: Name, field: u32, value: u64)
+    pub(crate) fn write_int_in(&mut self, at: Link, field: u32, value: u64)
         requires distinct { HasDistinct self.old.segments }
-        requires field { IsIntAt self.old.segments at field }
-        ensures { IsWrittenIn self.old self.new at field (Holds value) }
+        requires field { IsIntAt self.old.segments (name_of at) field }
+        ensures { IsWrittenIn self.old self.new (name_of at) field (Holds value) }
     {
         settle(&mut self.area, &mut self.noted, &mut self.all_noted);
         write_int_in(&mut self.area, at, field, value);

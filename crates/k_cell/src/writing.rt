@@ -5,7 +5,7 @@ ghost use Rattle.k_areas.specs.k_types.State.{Holds, Refers};
 ghost use Rattle.k_areas.specs.k_space.Areas.{HasDistinct};
 ghost use Rattle.k_cell.specs.Placed.{CanPlace, IsIntAt, IsPlacedIn, IsRefAt, IsWrittenIn};
 
-use k_areas::{Area, Body, Link, Name, Seg};
+use k_areas::{Area, Body, Link, Seg};
 
 /// Puts an object into the segment of that number.
 pub(crate) fn place_in(area: &mut Area, seg: Seg, body: Body) -> Link
@@ -22,34 +22,34 @@ pub(crate) fn place_in(area: &mut Area, seg: Seg, body: Body) -> Link
 }
 
 /// Writes a reference field of an object.
-pub(crate) fn write_ref_in(area: &mut Area, at: Name, field: u32, value: Option<Link>)
+pub(crate) fn write_ref_in(area: &mut Area, at: Link, field: u32, value: Option<Link>)
     requires distinct { HasDistinct area.old.segments }
-    requires field { IsRefAt area.old.segments at field }
-    ensures { IsWrittenIn area.old area.new at field (Refers (option_map name_of value)) }
+    requires field { IsRefAt area.old.segments (name_of at) field }
+    ensures { IsWrittenIn area.old area.new (name_of at) field (Refers (option_map name_of value)) }
 {
     let Some(segment) = area.get_mut(at.seg) else {
         unreachable!()
     };
     // Read so that the proof knows that no two objects lie in one slot.
     let _given = segment.made();
-    let Some(slot) = segment.find(at.serial) else {
+    let Some(slot) = segment.find_near(at.serial, at.slot) else {
         unreachable!()
     };
     segment.write_ref(slot, field, value);
 }
 
 /// Writes an integer field of an object.
-pub(crate) fn write_int_in(area: &mut Area, at: Name, field: u32, value: u64)
+pub(crate) fn write_int_in(area: &mut Area, at: Link, field: u32, value: u64)
     requires distinct { HasDistinct area.old.segments }
-    requires field { IsIntAt area.old.segments at field }
-    ensures { IsWrittenIn area.old area.new at field (Holds value) }
+    requires field { IsIntAt area.old.segments (name_of at) field }
+    ensures { IsWrittenIn area.old area.new (name_of at) field (Holds value) }
 {
     let Some(segment) = area.get_mut(at.seg) else {
         unreachable!()
     };
     // Read so that the proof knows that no two objects lie in one slot.
     let _given = segment.made();
-    let Some(slot) = segment.find(at.serial) else {
+    let Some(slot) = segment.find_near(at.serial, at.slot) else {
         unreachable!()
     };
     segment.write_int(slot, field, value);

@@ -26,7 +26,7 @@ fn small_cell(alloc: Global) -> Result<KernelCell, Fail> {
 fn check_directory<R: Abort>(rt: &R, cell: &KernelCell) {
     let directory = cell.directory().name();
     assert!(rt; cell.has(directory));
-    assert_eq!(rt; cell.field_count(directory), 2);
+    assert_eq!(rt; cell.field_count(cell.directory()), 2);
     assert_eq!(rt; cell.bytes(), 32);
 }
 

@@ -35,20 +35,20 @@ impl HeapCell {
 
     /// Writes a reference, or null, into the field of the object. It asks no write barrier, and adds no exit item: both are the
     /// caller's. Constant time, and no memory.
-    pub fn write_ref(&mut self, at: Name, field: u32, value: Option<Link>)
+    pub fn write_ref(&mut self, at: Link, field: u32, value: Option<Link>)
         requires idle { self.old.value.collection ≡ Idle }
-        requires kind { IsTrue (is_ref (field_among self.old.value.objects at field)) }
-        ensures { self.new ≡ record self.old { value = with_field at field (Refers (option_map name_of value)) self.old.value } }
+        requires kind { IsTrue (is_ref (field_among self.old.value.objects (name_of at) field)) }
+        ensures { self.new ≡ record self.old { value = with_field (name_of at) field (Refers (option_map name_of value)) self.old.value } }
     {
         self.holdings.write_ref(at, field, value);
     }
 
     /// Writes a number into the field of the object. Constant time, and no memory.
-    pub fn write_int(&mut self, at: Name, field: u32, value: u64)
+    pub fn write_int(&mut self, at: Link, field: u32, value: u64)
         requires idle { self.old.value.collection ≡ Idle }
-        requires there { field < field_count_among self.old.value.objects at }
-        requires kind { IsFalse (is_ref (field_among self.old.value.objects at field)) }
-        ensures { self.new ≡ record self.old { value = with_field at field (Holds value) self.old.value } }
+        requires there { field < field_count_among self.old.value.objects (name_of at) }
+        requires kind { IsFalse (is_ref (field_among self.old.value.objects (name_of at) field)) }
+        ensures { self.new ≡ record self.old { value = with_field (name_of at) field (Holds value) self.old.value } }
     {
         self.holdings.write_int(at, field, value);
     }

@@ -48,15 +48,15 @@ impl KernelCell {
     }
 
     /// The number of the object's fields; 0 where there is no such object. Constant time.
-    pub fn field_count(&self, at: Name) -> u32
-        ensures { result ≡ field_count_among self.now.value.objects at }
+    pub fn field_count(&self, at: Link) -> u32
+        ensures { result ≡ field_count_among self.now.value.objects (name_of at) }
     {
         self.holdings.field_count(at)
     }
 
     /// What the field of the object holds; the number 0 where there is no such field. Constant time.
-    pub fn field(&self, at: Name, field: u32) -> Stored
-        ensures { content_of result ≡ field_among self.now.value.objects at field }
+    pub fn field(&self, at: Link, field: u32) -> Stored
+        ensures { content_of result ≡ field_among self.now.value.objects (name_of at) field }
     {
         self.holdings.field(at, field)
     }

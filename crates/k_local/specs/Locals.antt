@@ -85,14 +85,6 @@ abbrev pub loaded_through : CellValue → Option Name → ℕ → Option Name
 loaded_through v None i = None
 loaded_through v (Some x) i = reference (field_among v.objects x i)
 
--- the reference that a load is answered; null where the reply is another one
-abbrev pub answered_by : Reply → Option Name
-answered_by Done = None
-answered_by (Made n) = None
-answered_by (Loaded value) = value
-answered_by (Value n) = None
-answered_by (Refused fault) = None
-
 -- what a local operation changes in the cell where it is not refused
 unfoldable pub local_change : CellValue → Op → CellValue
 local_change v (New r ty) = v

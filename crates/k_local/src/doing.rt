@@ -16,7 +16,7 @@ ghost use Rattle.k_squares.specs.Locals.{is_local_in};
 ghost use Rattle.k_space.specs.Objects.{content_of};
 ghost use Rattle.k_heap.specs.Heaps.{with_register_in};
 ghost use Rattle.k_heap.specs.Looks.{field_among, field_count_among};
-ghost use Rattle.k_local.specs.Locals.{HasRegisters, IsChanged, IsMachines, LeavesTheBook, ShowOwn, after_local, answered_by, field_answer, get_answer, is_refusal, load_answer, loaded_through, local_answer, local_change, put_answer, store_answer, written_through};
+ghost use Rattle.k_local.specs.Locals.{HasRegisters, IsChanged, IsMachines, LeavesTheBook, ShowOwn, after_local, field_answer, get_answer, is_refusal, load_answer, loaded_through, local_answer, local_change, put_answer, store_answer, written_through};
 
 use k_heap::HeapCell;
 use k_space::Stored;
@@ -49,39 +49,28 @@ pub fn local(cell: &mut HeapCell, op: &Op) -> Option<Reply>
     Some(reply)
 }
 
-/// What the register holds, by its name.
-fn held(cell: &HeapCell, r: Reg) -> Option<Name>
-    requires { r.0 < 16 }
-    ensures { result ≡ held_in cell.now.value.process r.0 }
+/// The name of the object to which the reference leads.
+fn named(value: Option<Link>) -> Option<Name>
+    ensures { result ≡ option_map name_of value }
 {
-    match cell.reg(r) {
+    match value {
         Some(link) => Some(link.name()),
         None => None,
     }
 }
 
-/// A reference to the object.
-fn linked(value: Option<Name>) -> Option<Link>
-    ensures { option_map name_of result ≡ value }
-{
-    match value {
-        Some(name) => Some(name.link()),
-        None => None,
-    }
-}
-
 /// Whether the reference is null or leads to an object of the process's own segment.
-fn is_own(pid: Pid, value: Option<Name>) -> bool
-    ensures { result ≡ is_own pid.0 value }
+fn is_own(pid: Pid, value: Option<Link>) -> bool
+    ensures { result ≡ is_own pid.0 (option_map name_of value) }
 {
     match value {
-        Some(name) => lies_in(pid, name),
+        Some(link) => lies_in(pid, link),
         None => true,
     }
 }
 
 /// Whether the object is of the process's own segment.
-fn lies_in(pid: Pid, at: Name) -> bool
+fn lies_in(pid: Pid, at: Link) -> bool
     ensures { result ≡ (at.seg.0 == pid.0 + 1) }
 {
     u64::from(at.seg.0) == u64::from(pid.0) + 1
@@ -97,12 +86,12 @@ fn is_ref(stored: Stored) -> bool
     }
 }
 
-fn reference(stored: Stored) -> Option<Name>
-    ensures { result ≡ reference (content_of stored) }
+fn reference(stored: Stored) -> Option<Link>
+    ensures { option_map name_of result ≡ reference (content_of stored) }
 {
     match stored {
         Stored::Null => None,
-        Stored::Refers(name) => Some(name),
+        Stored::Refers(target) => Some(target.link()),
         Stored::Holds(_) => None,
     }
 }
@@ -118,9 +107,9 @@ fn number_in(stored: Stored) -> u64
 }
 
 /// What the look-up of the field finds, where the object is of the process's own segment.
-fn own_field(cell: &HeapCell, at: Name, field: u32) -> Option<Stored>
+fn own_field(cell: &HeapCell, at: Link, field: u32) -> Option<Stored>
     ensures own { is_some result ≡ (at.seg.0 == cell.now.pid.0 + 1) }
-    ensures found { IfSome result (λ found. content_of found ≡ field_among cell.now.value.objects at field) }
+    ensures found { IfSome result (λ found. content_of found ≡ field_among cell.now.value.objects (name_of at) field) }
 {
     if !lies_in(cell.pid(), at) {
         return None;
@@ -130,9 +119,9 @@ fn own_field(cell: &HeapCell, at: Name, field: u32) -> Option<Stored>
 
 /// Whether the object has the field, where its look-up finds that. Every reference stands in a field that is there, and every number
 /// but 0: so a 0 alone asks for the number of fields.
-fn is_there(cell: &HeapCell, at: Name, field: u32, found: Stored) -> bool
-    requires { content_of found ≡ field_among cell.now.value.objects at field }
-    ensures { result ≡ not (nat_le (field_count_among cell.now.value.objects at) field) }
+fn is_there(cell: &HeapCell, at: Link, field: u32, found: Stored) -> bool
+    requires { content_of found ≡ field_among cell.now.value.objects (name_of at) field }
+    ensures { result ≡ not (nat_le (field_count_among cell.now.value.objects (name_of at)) field) }
 {
     match found {
         Stored::Null => true,
@@ -144,15 +133,15 @@ fn is_there(cell: &HeapCell, at: Name, field: u32, found: Stored) -> bool
 /// The answer to an access to the field of the object, which is the process's own, and whose look-up finds that.
 fn field_answer(
     cell: &HeapCell,
-    at: Name,
+    at: Link,
     field: u32,
     found: Stored,
     of_kind: bool,
     answer: Option<Reply>,
 ) -> Option<Reply>
     requires own { IsTrue (at.seg.0 == cell.now.pid.0 + 1) }
-    requires found { content_of found ≡ field_among cell.now.value.objects at field }
-    ensures { result ≡ field_answer cell.now.value cell.now.pid.0 at field of_kind answer }
+    requires found { content_of found ≡ field_among cell.now.value.objects (name_of at) field }
+    ensures { result ≡ field_answer cell.now.value cell.now.pid.0 (name_of at) field of_kind answer }
 {
     if !is_there(cell, at, field, found) {
         return Some(Reply::Refused(Fault::NoField));
@@ -184,11 +173,11 @@ fn loaded_if(test: bool, value: Option<Name>) -> Option<Reply>
 
 fn store_answer(
     cell: &HeapCell,
-    base: Option<Name>,
+    base: Option<Link>,
     field: u32,
-    value: Option<Name>,
+    value: Option<Link>,
 ) -> Option<Reply>
-    ensures { result ≡ store_answer cell.now.value cell.now.pid.0 base field value }
+    ensures { result ≡ store_answer cell.now.value cell.now.pid.0 (option_map name_of base) field (option_map name_of value) }
 {
     let Some(at) = base else {
         return Some(Reply::Refused(Fault::Null));
@@ -198,21 +187,27 @@ fn store_answer(
     field_answer(cell, at, field, stored, is_ref(stored), answer)
 }
 
-fn load_answer(cell: &HeapCell, base: Option<Name>, field: u32, old: Option<Name>) -> Option<Reply>
-    ensures { result ≡ load_answer cell.now.value cell.now.pid.0 base field old }
+/// The answer to a load from the field of the object, which is the process's own, and whose look-up finds that, where the result
+/// register held `old`.
+fn load_answer(
+    cell: &HeapCell,
+    at: Link,
+    field: u32,
+    found: Stored,
+    old: Option<Link>,
+) -> Option<Reply>
+    requires own { IsTrue (at.seg.0 == cell.now.pid.0 + 1) }
+    requires found { content_of found ≡ field_among cell.now.value.objects (name_of at) field }
+    ensures { result ≡ load_answer cell.now.value cell.now.pid.0 (Some (name_of at)) field (option_map name_of old) }
 {
-    let Some(at) = base else {
-        return Some(Reply::Refused(Fault::Null));
-    };
-    let stored = own_field(cell, at, field)?;
-    let value = reference(stored);
+    let value = reference(found);
     let both = is_own(cell.pid(), value) && is_own(cell.pid(), old);
-    let answer = loaded_if(both, value);
-    field_answer(cell, at, field, stored, is_ref(stored), answer)
+    let answer = loaded_if(both, named(value));
+    field_answer(cell, at, field, found, is_ref(found), answer)
 }
 
-fn put_answer(cell: &HeapCell, base: Option<Name>, field: u32) -> Option<Reply>
-    ensures { result ≡ put_answer cell.now.value cell.now.pid.0 base field }
+fn put_answer(cell: &HeapCell, base: Option<Link>, field: u32) -> Option<Reply>
+    ensures { result ≡ put_answer cell.now.value cell.now.pid.0 (option_map name_of base) field }
 {
     let Some(at) = base else {
         return Some(Reply::Refused(Fault::Null));
@@ -221,8 +216,8 @@ fn put_answer(cell: &HeapCell, base: Option<Name>, field: u32) -> Option<Reply>
     field_answer(cell, at, field, stored, !is_ref(stored), Some(Reply::Done))
 }
 
-fn get_answer(cell: &HeapCell, base: Option<Name>, field: u32) -> Option<Reply>
-    ensures { result ≡ get_answer cell.now.value cell.now.pid.0 base field }
+fn get_answer(cell: &HeapCell, base: Option<Link>, field: u32) -> Option<Reply>
+    ensures { result ≡ get_answer cell.now.value cell.now.pid.0 (option_map name_of base) field }
 {
     let Some(at) = base else {
         return Some(Reply::Refused(Fault::Null));
@@ -245,36 +240,23 @@ fn is_refusal(reply: Reply) -> bool
     }
 }
 
-/// The reference that a load is answered; null where the reply is another one.
-fn answered(reply: Reply) -> Option<Name>
-    ensures { result ≡ answered_by reply }
-{
-    match reply {
-        Reply::Loaded(value) => value,
-        Reply::Done => None,
-        Reply::Made(_) => None,
-        Reply::Value(_) => None,
-        Reply::Refused(_) => None,
-    }
-}
-
 /// Writes a reference through the base, if it is not null.
-fn write_ref(cell: &mut HeapCell, base: Option<Name>, field: u32, value: Option<Name>)
+fn write_ref(cell: &mut HeapCell, base: Option<Link>, field: u32, value: Option<Link>)
     requires idle { cell.old.value.collection ≡ Idle }
-    requires kind { (x : Named) → base ≡ Some x → IsTrue (is_ref (field_among cell.old.value.objects x field)) }
-    ensures { cell.new ≡ record cell.old { value = written_through base field (Refers value) cell.old.value } }
+    requires kind { (x : Named) → option_map name_of base ≡ Some x → IsTrue (is_ref (field_among cell.old.value.objects x field)) }
+    ensures { cell.new ≡ record cell.old { value = written_through (option_map name_of base) field (Refers (option_map name_of value)) cell.old.value } }
 {
     if let Some(at) = base {
-        cell.write_ref(at, field, linked(value));
+        cell.write_ref(at, field, value);
     }
 }
 
 /// Writes a number through the base, if it is not null.
-fn write_int(cell: &mut HeapCell, base: Option<Name>, field: u32, number: u64)
+fn write_int(cell: &mut HeapCell, base: Option<Link>, field: u32, number: u64)
     requires idle { cell.old.value.collection ≡ Idle }
-    requires there { (x : Named) → base ≡ Some x → field < field_count_among cell.old.value.objects x }
-    requires kind { (x : Named) → base ≡ Some x → IsFalse (is_ref (field_among cell.old.value.objects x field)) }
-    ensures { cell.new ≡ record cell.old { value = written_through base field (Holds number) cell.old.value } }
+    requires there { (x : Named) → option_map name_of base ≡ Some x → field < field_count_among cell.old.value.objects x }
+    requires kind { (x : Named) → option_map name_of base ≡ Some x → IsFalse (is_ref (field_among cell.old.value.objects x field)) }
+    ensures { cell.new ≡ record cell.old { value = written_through (option_map name_of base) field (Holds number) cell.old.value } }
 {
     if let Some(at) = base {
         cell.write_int(at, field, number);
@@ -289,8 +271,8 @@ fn store(cell: &mut HeapCell, base: Reg, field: u32, value: Reg) -> Option<Reply
     ensures none { IfNone result (cell.new ≡ cell.old) }
     ensures some { IfSome result (λ said. IsChanged cell.old cell.new said (written_through (held_in cell.old.value.process base.0) field (Refers (held_in cell.old.value.process value.0)) cell.old.value)) }
 {
-    let into = held(cell, base);
-    let stored = held(cell, value);
+    let into = cell.reg(base);
+    let stored = cell.reg(value);
     let reply = store_answer(cell, into, field, stored)?;
     if !is_refusal(reply) {
         write_ref(cell, into, field, stored);
@@ -305,9 +287,13 @@ fn load(cell: &mut HeapCell, reg: Reg, base: Reg, field: u32) -> Option<Reply>
     ensures none { IfNone result (cell.new ≡ cell.old) }
     ensures some { IfSome result (λ said. IsChanged cell.old cell.new said (with_register_in reg.0 (loaded_through cell.old.value (held_in cell.old.value.process base.0) field) cell.old.value)) }
 {
-    let reply = load_answer(cell, held(cell, base), field, held(cell, reg))?;
+    let Some(at) = cell.reg(base) else {
+        return Some(Reply::Refused(Fault::Null));
+    };
+    let stored = own_field(cell, at, field)?;
+    let reply = load_answer(cell, at, field, stored, cell.reg(reg))?;
     if !is_refusal(reply) {
-        cell.set_reg(reg, linked(answered(reply)));
+        cell.set_reg(reg, reference(stored));
     }
     Some(reply)
 }
@@ -320,7 +306,7 @@ fn put(cell: &mut HeapCell, base: Reg, field: u32, number: u64) -> Option<Reply>
     ensures none { IfNone result (cell.new ≡ cell.old) }
     ensures some { IfSome result (λ said. IsChanged cell.old cell.new said (written_through (held_in cell.old.value.process base.0) field (Holds number) cell.old.value)) }
 {
-    let into = held(cell, base);
+    let into = cell.reg(base);
     let reply = put_answer(cell, into, field)?;
     if !is_refusal(reply) {
         write_int(cell, into, field, number);
@@ -329,17 +315,17 @@ fn put(cell: &mut HeapCell, base: Reg, field: u32, number: u64) -> Option<Reply>
 }
 
 /// Has the register hold the reference, and answers; `None` where that is not local, since it held or is to hold a foreign one.
-fn set(cell: &mut HeapCell, reg: Reg, value: Option<Name>) -> Option<Reply>
+fn set(cell: &mut HeapCell, reg: Reg, value: Option<Link>) -> Option<Reply>
     requires register { reg.0 < 16 }
-    ensures answer { result ≡ (if is_own cell.old.pid.0 (held_in cell.old.value.process reg.0) && is_own cell.old.pid.0 value then Some Done else None) }
+    ensures answer { result ≡ (if is_own cell.old.pid.0 (held_in cell.old.value.process reg.0) && is_own cell.old.pid.0 (option_map name_of value) then Some Done else None) }
     ensures none { IfNone result (cell.new ≡ cell.old) }
-    ensures some { IfSome result (λ said. IsChanged cell.old cell.new said (with_register_in reg.0 value cell.old.value)) }
+    ensures some { IfSome result (λ said. IsChanged cell.old cell.new said (with_register_in reg.0 (option_map name_of value) cell.old.value)) }
 {
     let pid = cell.pid();
-    if !is_own(pid, held(cell, reg)) || !is_own(pid, value) {
+    if !is_own(pid, cell.reg(reg)) || !is_own(pid, value) {
         return None;
     }
-    cell.set_reg(reg, linked(value));
+    cell.set_reg(reg, value);
     Some(Reply::Done)
 }
 
@@ -356,7 +342,7 @@ fn apply(cell: &mut HeapCell, op: &Op) -> Option<Reply>
         Op::Store { base, field, value } => store(cell, base, field, value),
         Op::Load { reg, base, field } => load(cell, reg, base, field),
         Op::Move { reg, from } => {
-            let value = held(cell, from);
+            let value = cell.reg(from);
             set(cell, reg, value)
         }
         Op::Clear { reg } => set(cell, reg, None),
@@ -365,7 +351,7 @@ fn apply(cell: &mut HeapCell, op: &Op) -> Option<Reply>
             field,
             number,
         } => put(cell, base, field, number),
-        Op::Get { base, field } => get_answer(cell, held(cell, base), field),
+        Op::Get { base, field } => get_answer(cell, cell.reg(base), field),
         Op::New { reg: _, ty: _ } => None,
         Op::KNew { reg: _, ty: _ } => None,
         Op::SNew {

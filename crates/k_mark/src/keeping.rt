@@ -25,7 +25,7 @@ fn is_lower(stored: Stored, next: Bound) -> bool
 {
     match stored {
         Stored::Null => true,
-        Stored::Refers(target) => next.covers(target),
+        Stored::Refers(target) => next.covers(target.name),
         Stored::Holds(_) => true,
     }
 }

@@ -27,12 +27,12 @@ pub fn clear(area: &mut Area, exits: &mut ExitTable)
 }
 
 /// Makes a live object of the area gray, so that marking begins with it. A marked one stays as it is, and
-/// a name that is no live object of the area changes nothing. It costs as much as [`Area::get`].
+/// a reference to no live object of the area changes nothing. It costs as much as [`Area::make_gray`].
 pub fn root(area: &mut Area, target: Link)
     requires { HasDistinct area.old.segments }
     ensures { area.new ≡ grayed area.old (name_of target) }
 {
-    area.make_gray(target.name());
+    area.make_gray(target);
 }
 
 /// Looks at one field: an object of the area is made gray, a foreign target is marked.
@@ -48,8 +48,8 @@ fn look<L: Ledger>(area: &mut Area, exits: &mut ExitTable, steps: &mut Steps<L>,
         Stored::Null => steps.tick(),
         Stored::Refers(target) => {
             steps.tick();
-            if !area.gray_own(target) {
-                exits.mark(target);
+            if !area.gray_own(target.link()) {
+                exits.mark(target.name);
             }
         }
         Stored::Holds(_) => {}

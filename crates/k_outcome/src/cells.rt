@@ -102,9 +102,9 @@ impl Cells {
         ensures { result ≡ field_count_among (cell_at self.now heap).objects at }
     {
         match heap {
-            Heap::Kernel => self.heaps.kernel.field_count(at),
-            Heap::User(pid) => self.process(pid).field_count(at),
-            Heap::Shared(id) => self.shared_heap(id).field_count(at),
+            Heap::Kernel => self.heaps.kernel.field_count(at.link()),
+            Heap::User(pid) => self.process(pid).field_count(at.link()),
+            Heap::Shared(id) => self.shared_heap(id).field_count(at.link()),
         }
     }
 
@@ -114,9 +114,9 @@ impl Cells {
         ensures { content_of result ≡ field_among (cell_at self.now heap).objects at field }
     {
         match heap {
-            Heap::Kernel => self.heaps.kernel.field(at, field),
-            Heap::User(pid) => self.process(pid).field(at, field),
-            Heap::Shared(id) => self.shared_heap(id).field(at, field),
+            Heap::Kernel => self.heaps.kernel.field(at.link(), field),
+            Heap::User(pid) => self.process(pid).field(at.link(), field),
+            Heap::Shared(id) => self.shared_heap(id).field(at.link(), field),
         }
     }
 

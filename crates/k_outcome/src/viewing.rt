@@ -71,7 +71,7 @@ impl View for Outcome {
     fn ref_at(&self, name: Name, field: u32) -> Option<Name> {
         let _cells = self.cells();
         match self.field(name, field) {
-            Stored::Refers(target) => Some(target),
+            Stored::Refers(target) => Some(target.name),
             Stored::Null | Stored::Holds(_) => None,
         }
     }

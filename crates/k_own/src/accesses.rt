@@ -43,23 +43,23 @@ fn is_own(pid: Pid, seg: Seg) -> bool
     u64::from(seg.0) == u64::from(pid.0) + 1
 }
 
-/// A reference to the object.
-fn linked(value: Option<Name>) -> Option<Link>
-    ensures { option_map name_of result ≡ value }
+/// The name of the object to which the reference leads.
+fn named(value: Option<Link>) -> Option<Name>
+    ensures { result ≡ option_map name_of value }
 {
     match value {
-        Some(name) => Some(name.link()),
+        Some(link) => Some(link.name()),
         None => None,
     }
 }
 
 /// The reference that a field holds; none where it holds a number.
-fn reference_in(stored: Stored) -> Option<Name>
-    ensures { result ≡ reference (content_of stored) }
+fn reference_in(stored: Stored) -> Option<Link>
+    ensures { option_map name_of result ≡ reference (content_of stored) }
 {
     match stored {
         Stored::Null => None,
-        Stored::Refers(name) => Some(name),
+        Stored::Refers(target) => Some(target.link()),
         Stored::Holds(_) => None,
     }
 }
@@ -88,14 +88,14 @@ pub(crate) fn refuse(cell: &mut HeapCell, book: &mut Book, op: Op, base: Reg) ->
 }
 
 /// Writes the reference into the field of the process's object, and adds the exit item and, where that is new, the entry.
-fn cross(cell: &mut HeapCell, book: &mut Book, at: Name, field: u32, target: Link)
+fn cross(cell: &mut HeapCell, book: &mut Book, at: Link, field: u32, target: Link)
     requires idle { cell.old.value.collection ≡ Idle }
-    requires kind { IsTrue (is_ref (field_among cell.old.value.objects at field)) }
+    requires kind { IsTrue (is_ref (field_among cell.old.value.objects (name_of at) field)) }
     requires exits { length cell.old.value.exits < cell.old.exit_room }
     requires home { target.seg.0 < length book.old.value.homes }
     requires entries { length book.old.value.entries < book.old.entry_room }
     requires small { counted book.old.value.entries (name_of target) < 2 ^ 32 - 1 }
-    ensures cell { cell.new ≡ record cell.old { value = with_field at field (Refers (Some (name_of target))) (with_exit_item (name_of target) cell.old.value) } }
+    ensures cell { cell.new ≡ record cell.old { value = with_field (name_of at) field (Refers (Some (name_of target))) (with_exit_item (name_of target) cell.old.value) } }
     ensures book { book.new ≡ record book.old { value = record book.old.value { entries = book.new.value.entries } } }
     ensures entered { book_shown_by book.new.value ≡ with_entry (not (name_among (name_of target) cell.old.value.exits)) (name_of target) (book_shown_by book.old.value) }
 {
@@ -137,7 +137,7 @@ pub(crate) fn store(
     if !passes_barrier(book.owner(target.seg)) {
         return commit_heap(cell, book, op, Reply::Refused(Fault::Segv));
     }
-    cross(cell, book, at.name(), field, target);
+    cross(cell, book, at, field, target);
     commit_heap(cell, book, op, Reply::Done)
 }
 
@@ -153,7 +153,7 @@ pub(crate) fn load(cell: &mut HeapCell, book: &mut Book, reg: Reg, base: Reg, fi
     if !is_own(cell.pid(), at.seg) {
         return refuse(cell, book, op, base);
     }
-    let value = reference_in(cell.field(at.name(), field));
-    set_register(cell, book, reg, linked(value));
-    commit_heap(cell, book, op, Reply::Loaded(value))
+    let value = reference_in(cell.field(at, field));
+    set_register(cell, book, reg, value);
+    commit_heap(cell, book, op, Reply::Loaded(named(value)))
 }

@@ -14,7 +14,7 @@ use crate::names::StepName;
 use crate::other::OtherCell;
 use crate::phases::{is_frozen, is_same};
 use k_commit::Book;
-use k_types::{Fault, Heap, Kind, Link, Name, legal};
+use k_types::{Fault, Heap, Kind, Link, legal};
 
 fn kind_of(heap: Heap) -> Kind
     ensures { result ≡ kind_of heap }
@@ -56,14 +56,14 @@ fn passes(book: &Book, heap: Heap, value: Option<Link>) -> bool
 pub(crate) fn may_store<O: OtherCell, S: StepName>(
     other: &O,
     book: &Book,
-    at: Name,
+    at: Link,
     field: u32,
     value: Option<Link>,
 ) -> Result<(), Fault>
     requires { CanJudge (owners_of S.before) (O.seen other.now) book.now (option_map name_of value) }
-    ensures fine { IfOk result (λ _. first_fault (store_faults_of (owners_of S.before) (O.seen other.now) book.now at field (option_map name_of value)) ≡ None) }
-    ensures kind { IfOk result (λ _. IsTrue (is_ref (field_among (O.seen other.now).held.value.objects at field))) }
-    ensures fault { IfErr result (λ fault. first_fault (store_faults_of (owners_of S.before) (O.seen other.now) book.now at field (option_map name_of value)) ≡ Some fault) }
+    ensures fine { IfOk result (λ _. first_fault (store_faults_of (owners_of S.before) (O.seen other.now) book.now (name_of at) field (option_map name_of value)) ≡ None) }
+    ensures kind { IfOk result (λ _. IsTrue (is_ref (field_among (O.seen other.now).held.value.objects (name_of at) field))) }
+    ensures fault { IfErr result (λ fault. first_fault (store_faults_of (owners_of S.before) (O.seen other.now) book.now (name_of at) field (option_map name_of value)) ≡ Some fault) }
 {
     read_reference(other.field_count(at), field, other.field(at, field))?;
     if is_frozen_heap(book, other.heap()) {

@@ -14,23 +14,23 @@ use k_commit::{Book, HeapCell, set_register};
 use k_types::{Event, Link, Name, Op, Reg, Reply};
 
 /// The object that the register holds.
-pub(crate) fn object_in(cell: &HeapCell, base: Reg) -> Name
+pub(crate) fn object_in(cell: &HeapCell, base: Reg) -> Link
     requires register { base.0 < 16 }
     requires there { IsTrue (is_some (held_in cell.now.value.process base.0)) }
-    ensures { held_in cell.now.value.process base.0 ≡ Some result }
+    ensures { held_in cell.now.value.process base.0 ≡ Some (name_of result) }
 {
     let Some(link) = cell.reg(base) else {
         unreachable!()
     };
-    link.name()
+    link
 }
 
-/// A reference to the object.
-fn linked(value: Option<Name>) -> Option<Link>
-    ensures { option_map name_of result ≡ value }
+/// The name of the object to which the reference leads.
+fn named(value: Option<Link>) -> Option<Name>
+    ensures { result ≡ option_map name_of value }
 {
     match value {
-        Some(name) => Some(name.link()),
+        Some(link) => Some(link.name()),
         None => None,
     }
 }
@@ -51,8 +51,8 @@ pub(crate) fn load<O: OtherCell, S: StepName>(
     let at = object_in(cell, base);
     match read_reference(other.field_count(at), field, other.field(at, field)) {
         Ok(value) => {
-            set_register(cell, book, reg, linked(value));
-            commit::<O, S>(cell, other, book, op, Reply::Loaded(value))
+            set_register(cell, book, reg, value);
+            commit::<O, S>(cell, other, book, op, Reply::Loaded(named(value)))
         }
         Err(fault) => commit::<O, S>(cell, other, book, op, Reply::Refused(fault)),
     }

@@ -3,7 +3,7 @@ use k_commit::{
     Book, HeapCell, KernelCell, SharedCell, append_heap_and_kernel, append_heap_and_shared,
 };
 use k_space::Stored;
-use k_types::{Event, Heap, Link, Name};
+use k_types::{Event, Heap, Link};
 
 /// A cell beside the process's own, whatever heap it is of. Each call takes constant time, an exit item's where the hash spreads the
 /// names, and none takes memory.
@@ -27,26 +27,26 @@ pub(crate) trait OtherCell {
         ensures { result ≡ (seen self.now).cell };
 
     /// The number of the object's fields; 0 where there is no such object.
-    fn field_count(&self, at: Name) -> u32
-        ensures { result ≡ field_count_among (seen self.now).held.value.objects at };
+    fn field_count(&self, at: Link) -> u32
+        ensures { result ≡ field_count_among (seen self.now).held.value.objects (name_of at) };
 
     /// What the field of the object holds; the number 0 where there is no such field.
-    fn field(&self, at: Name, field: u32) -> Stored
-        ensures { content_of result ≡ field_among (seen self.now).held.value.objects at field };
+    fn field(&self, at: Link, field: u32) -> Stored
+        ensures { content_of result ≡ field_among (seen self.now).held.value.objects (name_of at) field };
 
     /// Writes a reference, or null, into the field of the object. It asks neither the phase of the heap nor a write barrier, and adds
     /// no exit item: these are the caller's.
-    fn write_ref(&mut self, at: Name, field: u32, value: Option<Link>)
+    fn write_ref(&mut self, at: Link, field: u32, value: Option<Link>)
         requires idle { (seen self.old).held.value.collection ≡ Idle }
-        requires kind { IsTrue (is_ref (field_among (seen self.old).held.value.objects at field)) }
-        ensures { seen self.new ≡ with_value (with_field at field (Refers (option_map name_of value)) (seen self.old).held.value) (seen self.old) };
+        requires kind { IsTrue (is_ref (field_among (seen self.old).held.value.objects (name_of at) field)) }
+        ensures { seen self.new ≡ with_value (with_field (name_of at) field (Refers (option_map name_of value)) (seen self.old).held.value) (seen self.old) };
 
     /// Writes a number into the field of the object.
-    fn write_int(&mut self, at: Name, field: u32, value: u64)
+    fn write_int(&mut self, at: Link, field: u32, value: u64)
         requires idle { (seen self.old).held.value.collection ≡ Idle }
-        requires there { field < field_count_among (seen self.old).held.value.objects at }
-        requires kind { IsFalse (is_ref (field_among (seen self.old).held.value.objects at field)) }
-        ensures { seen self.new ≡ with_value (with_field at field (Holds value) (seen self.old).held.value) (seen self.old) };
+        requires there { field < field_count_among (seen self.old).held.value.objects (name_of at) }
+        requires kind { IsFalse (is_ref (field_among (seen self.old).held.value.objects (name_of at) field)) }
+        ensures { seen self.new ≡ with_value (with_field (name_of at) field (Holds value) (seen self.old).held.value) (seen self.old) };
 
     /// Adds the exit item where it is new, and tells whether it was.
     fn add_exit(&mut self, target: Link) -> bool
@@ -74,19 +74,19 @@ impl OtherCell for KernelCell {
         Heap::Kernel
     }
 
-    fn field_count(&self, at: Name) -> u32 {
+    fn field_count(&self, at: Link) -> u32 {
         KernelCell::field_count(self, at)
     }
 
-    fn field(&self, at: Name, field: u32) -> Stored {
+    fn field(&self, at: Link, field: u32) -> Stored {
         KernelCell::field(self, at, field)
     }
 
-    fn write_ref(&mut self, at: Name, field: u32, value: Option<Link>) {
+    fn write_ref(&mut self, at: Link, field: u32, value: Option<Link>) {
         KernelCell::write_ref(self, at, field, value);
     }
 
-    fn write_int(&mut self, at: Name, field: u32, value: u64) {
+    fn write_int(&mut self, at: Link, field: u32, value: u64) {
         KernelCell::write_int(self, at, field, value);
     }
 
@@ -108,19 +108,19 @@ impl OtherCell for SharedCell {
         Heap::Shared(self.id())
     }
 
-    fn field_count(&self, at: Name) -> u32 {
+    fn field_count(&self, at: Link) -> u32 {
         SharedCell::field_count(self, at)
     }
 
-    fn field(&self, at: Name, field: u32) -> Stored {
+    fn field(&self, at: Link, field: u32) -> Stored {
         SharedCell::field(self, at, field)
     }
 
-    fn write_ref(&mut self, at: Name, field: u32, value: Option<Link>) {
+    fn write_ref(&mut self, at: Link, field: u32, value: Option<Link>) {
         SharedCell::write_ref(self, at, field, value);
     }
 
-    fn write_int(&mut self, at: Name, field: u32, value: u64) {
+    fn write_int(&mut self, at: Link, field: u32, value: u64) {
         SharedCell::write_int(self, at, field, value);
     }
 

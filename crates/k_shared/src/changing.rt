@@ -36,18 +36,18 @@ impl SharedCell {
 
     /// Writes a reference, or null, into the field of the object. It asks neither the phase nor a write barrier, and adds no exit
     /// item: these are the caller's. Constant time, and no memory.
-    pub fn write_ref(&mut self, at: Name, field: u32, value: Option<Link>)
-        requires { IsTrue (is_ref (field_among self.old.value.objects at field)) }
-        ensures { self.new ≡ record self.old { value = with_field at field (Refers (option_map name_of value)) self.old.value } }
+    pub fn write_ref(&mut self, at: Link, field: u32, value: Option<Link>)
+        requires { IsTrue (is_ref (field_among self.old.value.objects (name_of at) field)) }
+        ensures { self.new ≡ record self.old { value = with_field (name_of at) field (Refers (option_map name_of value)) self.old.value } }
     {
         self.holdings.write_ref(at, field, value);
     }
 
     /// Writes a number into the field of the object, in any phase. Constant time, and no memory.
-    pub fn write_int(&mut self, at: Name, field: u32, value: u64)
-        requires there { field < field_count_among self.old.value.objects at }
-        requires kind { IsFalse (is_ref (field_among self.old.value.objects at field)) }
-        ensures { self.new ≡ record self.old { value = with_field at field (Holds value) self.old.value } }
+    pub fn write_int(&mut self, at: Link, field: u32, value: u64)
+        requires there { field < field_count_among self.old.value.objects (name_of at) }
+        requires kind { IsFalse (is_ref (field_among self.old.value.objects (name_of at) field)) }
+        ensures { self.new ≡ record self.old { value = with_field (name_of at) field (Holds value) self.old.value } }
     {
         self.holdings.write_int(at, field, value);
     }

@@ -1,7 +1,7 @@
 //! What the cell of a shared heap tells.
 ghost use Rattle.std.specs.Prelude.{◌≡◌, ◌↔◌, IsTrue, ◌<◌, ◌≤◌, ◌==◌, Some, length, slice_get};
 ghost use Rattle.std.specs.List.{list_any};
-ghost use Rattle.k_types.specs.Names.{name_among};
+ghost use Rattle.k_types.specs.Names.{name_among, name_of};
 ghost use Rattle.k_types.specs.Owners.{object_bytes};
 ghost use Rattle.k_types.specs.State.{has};
 ghost use Rattle.k_types.specs.Totals.{total};
@@ -13,7 +13,7 @@ ghost use Rattle.k_shared.specs.SharedHeaps.{holdings_of};
 
 use crate::cell::SharedCell;
 use k_cell::Stored;
-use k_types::{Name, Phase, Seg, SharedId, TypeId};
+use k_types::{Link, Name, Phase, Seg, SharedId, TypeId};
 
 impl SharedCell {
     /// The shared heap. Constant time.
@@ -52,15 +52,15 @@ impl SharedCell {
     }
 
     /// The number of the object's fields; 0 where there is no such object. Constant time.
-    pub fn field_count(&self, at: Name) -> u32
-        ensures { result ≡ field_count_among self.now.value.objects at }
+    pub fn field_count(&self, at: Link) -> u32
+        ensures { result ≡ field_count_among self.now.value.objects (name_of at) }
     {
         self.holdings.field_count(at)
     }
 
     /// What the field of the object holds; the number 0 where there is no such field. Constant time.
-    pub fn field(&self, at: Name, field: u32) -> Stored
-        ensures { content_of result ≡ field_among self.now.value.objects at field }
+    pub fn field(&self, at: Link, field: u32) -> Stored
+        ensures { content_of result ≡ field_among self.now.value.objects (name_of at) field }
     {
         self.holdings.field(at, field)
     }

@@ -49,21 +49,21 @@ before_only spots slot t before part same =
 
 -- the slot has the object of the next serial
 pub spot_inserted : (spots grown : List Spot) (heads : List ℕ) (serial slot chain before : ℕ) → AreLinked spots heads serial → ((t : ℕ) → spot_at grown t ≡ spot_at spots t) → slot < length grown → serial_at spots slot ≡ 0 → chain ≡ chain_by (length heads) serial → chain < length heads →
-    before ≡ head_at heads chain → AreLinked (set grown slot (record { serial = serial; before = before; stamp = 0; next = 0 })) (set heads chain (slot + 1)) (serial + 1)
+    before ≡ head_at heads chain → AreLinked (set grown slot (record { serial = serial; before = before; stamp = 0; next = 0; near = 0 })) (set heads chain (slot + 1)) (serial + 1)
 spot_inserted spots grown heads serial slot chain before was same inside free is within read =
-    subst (λ n. AreChained (serial_at (set grown slot (record { serial = serial; before = before; stamp = 0; next = 0 }))) (before_at (set grown slot (record { serial = serial; before = before; stamp = 0; next = 0 }))) n (head_at (set heads chain (slot + 1))) (serial + 1)) (sym (length-set heads chain (slot + 1)))
-    (added (serial_at spots) (before_at spots) (serial_at (set grown slot (record { serial = serial; before = before; stamp = 0; next = 0 }))) (before_at (set grown slot (record { serial = serial; before = before; stamp = 0; next = 0 }))) (length heads) (head_at heads) (head_at (set heads chain (slot + 1))) serial slot was free
+    subst (λ n. AreChained (serial_at (set grown slot (record { serial = serial; before = before; stamp = 0; next = 0; near = 0 }))) (before_at (set grown slot (record { serial = serial; before = before; stamp = 0; next = 0; near = 0 }))) n (head_at (set heads chain (slot + 1))) (serial + 1)) (sym (length-set heads chain (slot + 1)))
+    (added (serial_at spots) (before_at spots) (serial_at (set grown slot (record { serial = serial; before = before; stamp = 0; next = 0; near = 0 }))) (before_at (set grown slot (record { serial = serial; before = before; stamp = 0; next = 0; near = 0 }))) (length heads) (head_at heads) (head_at (set heads chain (slot + 1))) serial slot was free
     (ap (λ (s : Spot). s.serial) here) (λ t differs. ap (λ (s : Spot). s.serial) (kept t differs))
     (ap (λ (s : Spot). s.before) here ∙ read ∙ ap (head_at heads) is) (λ t differs. ap (λ (s : Spot). s.before) (kept t differs))
     (ap (head_at (set heads chain (slot + 1))) (sym is) ∙ get_or-set_same heads chain (slot + 1) 0 within ∙ add-one slot)
     (λ c differs. get_or-set_other heads chain c (slot + 1) 0 (λ q. differs (q ∙ is)))
     (subst (λ n. n < length heads) is within))
   where
-    here : spot_at (set grown slot (record { serial = serial; before = before; stamp = 0; next = 0 })) slot ≡ record { serial = serial; before = before; stamp = 0; next = 0 }
-    here = get_or-set_same grown slot (record { serial = serial; before = before; stamp = 0; next = 0 }) blank inside
+    here : spot_at (set grown slot (record { serial = serial; before = before; stamp = 0; next = 0; near = 0 })) slot ≡ record { serial = serial; before = before; stamp = 0; next = 0; near = 0 }
+    here = get_or-set_same grown slot (record { serial = serial; before = before; stamp = 0; next = 0; near = 0 }) blank inside
 
-    kept : (t : ℕ) → t ≢ slot → spot_at (set grown slot (record { serial = serial; before = before; stamp = 0; next = 0 })) t ≡ spot_at spots t
-    kept t differs = get_or-set_other grown slot t (record { serial = serial; before = before; stamp = 0; next = 0 }) blank differs ∙ same t
+    kept : (t : ℕ) → t ≢ slot → spot_at (set grown slot (record { serial = serial; before = before; stamp = 0; next = 0; near = 0 })) t ≡ spot_at spots t
+    kept t differs = get_or-set_other grown slot t (record { serial = serial; before = before; stamp = 0; next = 0; near = 0 }) blank differs ∙ same t
 
 -- the object in the slot is found on the way from the head, and a link on that way passes it by
 pub spot_removed : (spots : List Spot) (heads : List ℕ) (made wanted newer at slot before : ℕ) → AreLinked spots heads made → IsReached (serial_at spots) (before_at spots) (length heads) (head_at heads) wanted newer at → at ≡ suc slot → newer ≡ 0 → before ≡ before_at spots slot →

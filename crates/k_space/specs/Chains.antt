@@ -4,7 +4,7 @@ use Rattle.k_space.specs.declared.chains.Spot.{Spot}
 
 -- what is read where there is no spot
 abbrev pub blank : Spot
-blank = record { serial = 0; before = 0; stamp = 0; next = 0 }
+blank = record { serial = 0; before = 0; stamp = 0; next = 0; near = 0 }
 
 -- the spot of that slot
 abbrev pub spot_at : List Spot → ℕ → Spot

@@ -24,7 +24,7 @@ new_directory fields = record { ty = None; fields = replicate fields (Refers Non
 -- a field as the machine sees it
 abbrev pub content_of : Stored → Content
 content_of StoredNull = Refers None
-content_of (StoredRef name) = Refers (Some name)
+content_of (StoredRef target) = Refers (Some target.name)
 content_of (StoredInt n) = Holds n
 
 -- the field is there, and it is a reference

@@ -6,13 +6,14 @@ ghost use Rattle.std.specs.List.{position_or_len};
 ghost use Rattle.k_space.specs.Segments.{Row, SegmentValue, row_at, some_gray, unmarked_segment};
 ghost use Rattle.k_space.specs.Hints.{AreExact, numbers};
 ghost use Rattle.k_space.specs.Visiting.{IsVisited, IsVisitedFrom};
+ghost use Rattle.k_base.specs.k_types.Names.{name_of};
 ghost use Rattle.k_base.specs.k_types.declared.names.Name.{Name as Named};
 ghost use Rattle.k_space.specs.Areas.{place_of, row_of_name, segment_at, HasDistinct, is_foreign, gray_at, grayed, has_number, unmarked, blackened, blackened_in};
 
 use crate::body::Stored;
 use crate::bound::Bound;
 use crate::segment::{Segment, Visited};
-use k_base::{Name, NoMemory, Seg};
+use k_base::{Link, Name, NoMemory, Seg};
 use std::alloc::Global;
 use std::marker::Model;
 
@@ -83,6 +84,10 @@ fn place(segments: &[Segment], hints: &[usize], exact: bool, seg: Seg) -> usize
     requires exact { IsTrue exact → AreExact (numbers segments.now) hints.now }
     ensures { result ≡ position_or_len (λ s. s.number == seg.0) segments.now }
 {
+    // A process's own heap has one segment, whose number is above the room.
+    if stands_at(segments, 0, seg) {
+        return 0;
+    }
     if let Some(hint) = hints.get(seg.0 as usize) {
         if stands_at(segments, *hint, seg) {
             return *hint;
@@ -225,28 +230,28 @@ impl Area {
         }
     }
 
-    /// Makes a white object gray. A name that is no live object of the area changes nothing. It costs as
-    /// much as `get`.
-    pub fn make_gray(&mut self, target: Name)
+    /// Makes a white object gray. A reference to no live object of the area changes nothing. It costs as
+    /// much as `get`, and one load where the reference has its slot.
+    pub fn make_gray(&mut self, target: Link)
         requires { HasDistinct self.old.segments }
-        ensures { self.new ≡ grayed self.old target }
+        ensures { self.new ≡ grayed self.old (name_of target) }
     {
         self.gray_own(target);
     }
 
-    /// The same, and tells whether the area has the segment of that name.
+    /// The same, and tells whether the area has the segment to which the reference leads.
     #[tactic(auto, using(crate::proofs::Segs::grayed_none))]
-    pub fn gray_own(&mut self, target: Name) -> bool
+    pub fn gray_own(&mut self, target: Link) -> bool
         requires { HasDistinct self.old.segments }
-        ensures grayed { self.new ≡ grayed self.old target }
-        ensures own { result ≡ not (is_foreign self.old target) }
+        ensures grayed { self.new ≡ grayed self.old (name_of target) }
+        ensures own { result ≡ not (is_foreign self.old (name_of target)) }
         ensures foreign { IsFalse result → self.new ≡ self.old }
     {
         let at = self.place(target.seg);
         if at >= self.segments.len() {
             return false;
         }
-        self.segments[at].make_gray(target.serial);
+        self.segments[at].make_gray(target.serial, target.slot);
         self.hints.gray = at;
         true
     }

@@ -6,15 +6,47 @@ ghost use Rattle.k_base.specs.k_types.Types.{object_size};
 ghost use Rattle.k_space.specs.Objects.{HasRef, HasInt, content_of, new_body, new_directory};
 ghost use Rattle.k_base.specs.k_types.Names.{name_of};
 
-use k_base::{Field, Link, Name, NoMemory, TypeId, TypeTable, object_size};
+use crate::chains::short;
+use k_base::{Field, Link, Name, NoMemory, Slot, TypeId, TypeTable, object_size};
 use std::alloc::Global;
 use std::marker::Model;
 
-/// What a field holds: a reference, kept by its name, or null, or a number.
+/// A reference as a field keeps it, which leaves 32 bits for the hint of a slot. It stands for its name; no clause speaks of the hint.
+#[derive(Clone, Copy, Debug)]
+pub struct ShortLink {
+    pub name: Name,
+    pub slot: u32,
+}
+
+impl ShortLink {
+    /// The reference in that form. A hint that does not fit becomes 0.
+    fn of(link: Link) -> ShortLink
+        ensures { result.name ≡ name_of link }
+    {
+        ShortLink {
+            name: link.name(),
+            slot: short(link.slot.0),
+        }
+    }
+
+    /// The reference in a running table, with the same hint.
+    pub fn link(self) -> Link
+        ensures { name_of result ≡ self.name }
+    {
+        let ShortLink { name, slot } = self;
+        Link {
+            seg: name.seg,
+            serial: name.serial,
+            slot: Slot(slot as usize),
+        }
+    }
+}
+
+/// What a field holds: a reference, or null, or a number.
 #[derive(Clone, Copy, Debug)]
 pub enum Stored {
     Null,
-    Refers(Name),
+    Refers(ShortLink),
     Holds(u64),
 }
 
@@ -34,7 +66,7 @@ impl Stored {
         ensures { content_of result ≡ Refers (option_map name_of value) }
     {
         match value {
-            Some(link) => Stored::Refers(link.name()),
+            Some(link) => Stored::Refers(ShortLink::of(link)),
             None => Stored::Null,
         }
     }
@@ -151,7 +183,7 @@ impl Body {
         ensures { slice_get self.now.fields field ≡ Some (Refers (option_map name_of result)) }
     {
         match self.fields[field as usize] {
-            Stored::Refers(name) => Some(name.link()),
+            Stored::Refers(target) => Some(target.link()),
             Stored::Null => None,
             Stored::Holds(_) => None,
         }

@@ -13,6 +13,8 @@ pub(crate) struct Spot {
     pub(crate) stamp: u32,
     // The serial of the next gray object.
     pub(crate) next: u32,
+    // A hint of the slot in which that one lies.
+    pub(crate) near: u32,
 }
 
 /// Where a walk along a chain has ended. Both numbers are one more than a slot, and 0 where there is none.
@@ -22,6 +24,15 @@ pub(crate) struct Reached {
     pub(crate) newer: u32,
     // That of the object that was looked for.
     pub(crate) at: u32,
+}
+
+/// The hint of a slot in 32 bits. One that does not fit becomes 0.
+pub(crate) fn short(slot: usize) -> u32 {
+    if slot <= u32::MAX as usize {
+        slot as u32
+    } else {
+        0
+    }
 }
 
 /// The number of the chain of a serial, of so many, which are a power of two. Serials in a row have chains in a row, and the
@@ -70,6 +81,7 @@ fn grow(spots: &mut Vec<Spot>, slot: usize)
             before: 0,
             stamp: 0,
             next: 0,
+            near: 0,
         });
     }
 }
@@ -92,6 +104,7 @@ pub(crate) fn insert(spots: &mut Vec<Spot>, heads: &mut Vec<u32>, slot: usize, s
         before,
         stamp: 0,
         next: 0,
+        near: 0,
     };
     heads[chain] = slot as u32 + 1;
 }
@@ -121,6 +134,7 @@ pub(crate) fn remove(spots: &mut Vec<Spot>, heads: &mut Vec<u32>, serial: usize)
             before: 0,
             stamp: 0,
             next: 0,
+            near: 0,
         };
         if reached.newer == 0 {
             let chain = chain_of(heads.len(), serial);

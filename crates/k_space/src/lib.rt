@@ -23,6 +23,6 @@ mod marks;
 mod segment;
 
 pub use area::Area;
-pub use body::{Body, Stored};
+pub use body::{Body, ShortLink, Stored};
 pub use bound::Bound;
 pub use segment::{Gone, Segment, Visited};

@@ -51,8 +51,8 @@ fn mark_of(spot: Spot, epoch: u32) -> Mark
     }
 }
 
-/// The spot with that mark.
-fn marked(spot: Spot, mark: Mark, epoch: u32) -> Spot
+/// The spot with that mark, and with a hint of the slot of the next gray object.
+fn marked(spot: Spot, mark: Mark, near: u32, epoch: u32) -> Spot
     requires begun { 0 < epoch }
     requires small { epoch + 1 < 2 ^ 32 }
     ensures mark { mark_of epoch result ≡ mark }
@@ -70,6 +70,7 @@ fn marked(spot: Spot, mark: Mark, epoch: u32) -> Spot
         before: spot.before,
         stamp,
         next,
+        near,
     }
 }
 
@@ -83,6 +84,7 @@ fn restamp(spots: &mut [Spot])
             before: spot.before,
             stamp: 0,
             next: spot.next,
+            near: spot.near,
         };
     }
 }
@@ -177,22 +179,31 @@ impl Places {
         self.made += 1;
     }
 
-    /// Gives the object in that slot that mark, with no look along a chain.
-    pub(crate) fn mark_in(&mut self, slot: usize, mark: Mark)
+    /// The hint of the slot of the gray object that comes after the one in that slot.
+    pub(crate) fn near(&self, slot: usize) -> usize {
+        match self.spots.get(slot) {
+            Some(spot) => spot.near as usize,
+            None => 0,
+        }
+    }
+
+    /// Gives the object in that slot that mark, with no look along a chain, and a hint of the slot of the next gray one.
+    pub(crate) fn mark_in(&mut self, slot: usize, mark: Mark, near: u32)
         requires { IsHeld self.old.items slot }
         ensures { (serial : ℕ) (was : MarkOf) → slice_index_or self.old.items serial NoPlace ≡ PlaceAt slot was → self.new ≡ record self.old { items = slice_set self.old.items serial (PlaceAt slot mark) } }
     {
-        self.spots[slot] = marked(self.spots[slot], mark, self.epoch);
+        self.spots[slot] = marked(self.spots[slot], mark, near, self.epoch);
     }
 
-    /// Gives the object of that serial, if there is one, that mark. The slot is a hint of where it lies.
-    pub(crate) fn mark(&mut self, serial: usize, hint: usize, mark: Mark)
+    /// Gives the object of that serial, if there is one, that mark. The slot is a hint of where it lies, and `near` one of where the
+    /// next gray object does.
+    pub(crate) fn mark(&mut self, serial: usize, hint: usize, mark: Mark, near: u32)
         requires { serial < length self.old.items }
         ensures there { (slot : ℕ) (was : MarkOf) → slice_index_or self.old.items serial NoPlace ≡ PlaceAt slot was → self.new ≡ record self.old { items = slice_set self.old.items serial (PlaceAt slot mark) } }
         ensures none { slice_index_or self.old.items serial NoPlace ≡ NoPlace → self.new ≡ self.old }
     {
         match self.at_near(serial, hint) {
-            Place::At(slot, _) => self.mark_in(slot, mark),
+            Place::At(slot, _) => self.mark_in(slot, mark, near),
             Place::Empty => {}
         }
     }
@@ -202,15 +213,15 @@ impl Places {
         requires { serial < length self.old.items }
         ensures { self.new ≡ record self.old { items = slice_set self.old.items serial (black_place (slice_index_or self.old.items serial NoPlace)) } }
     {
-        self.mark(serial, hint, Mark::Black);
+        self.mark(serial, hint, Mark::Black, 0);
     }
 
-    /// Has the gray place of the one serial, which names no next one, name the other. The slot is a hint of where the one lies.
-    pub(crate) fn follow(&mut self, last: usize, hint: usize, next: u32)
+    /// Has the gray place of the one serial, which names no next one, name the other. The slots are hints of where they lie.
+    pub(crate) fn follow(&mut self, last: usize, hint: usize, next: u32, near: u32)
         requires { IsGrayEnd self.old.items last }
         ensures { (slot : ℕ) → slice_index_or self.old.items last NoPlace ≡ PlaceAt slot (MarkGray 0) → self.new ≡ record self.old { items = slice_set self.old.items last (PlaceAt slot (MarkGray next)) } }
     {
-        self.mark(last, hint, Mark::Gray(next));
+        self.mark(last, hint, Mark::Gray(next), near);
     }
 
     /// Takes the object of that serial, if there is one, out.

@@ -12,6 +12,7 @@ ghost use Rattle.k_space.specs.declared.segment.Cell.{Cell as SlabCell};
 
 use crate::body::{Body, Stored};
 use crate::bound::Bound;
+use crate::chains::short;
 use crate::live::{Entry, blacken, next_white};
 use crate::marks::{Mark, Place, Places};
 use k_base::{Field, Link, Name, NoMemory, Seg, Serial, Slot, TypeId};
@@ -50,8 +51,9 @@ pub struct Segment {
     room: u32,
     places: Places,
     cells: Slab<Cell>,
-    // The serial of the gray object that was made gray first; 0 where there is none.
+    // The serial of the gray object that was made gray first, and a hint of where it lies; 0 where there is none.
     gray: u32,
+    gray_slot: usize,
     // That of the one that was made gray last, and a hint of where it lies.
     last: u32,
     last_slot: usize,
@@ -71,6 +73,7 @@ impl Drop for Segment {
             places: _,
             cells: _,
             gray: _,
+            gray_slot: _,
             last: _,
             last_slot: _,
             bytes: _,
@@ -133,6 +136,7 @@ impl Segment {
             places: Places::make(alloc, slots, room)?,
             cells,
             gray: 0,
+            gray_slot: 0,
             last: 0,
             last_slot: 0,
             bytes: 0,
@@ -223,6 +227,18 @@ impl Segment {
         }
     }
 
+    /// The same, where the slot is a hint of where the object lies: one load where it is right, whatever the hash does.
+    pub fn find_near(&self, serial: Serial, hint: Slot) -> Option<Slot>
+        ensures { option_map (λ s. s.0) result ≡ option_map (λ row. row.slot) (row_at self.now serial.0) }
+    {
+        if let Some(cell) = self.cells.get(hint.0) {
+            if cell.serial.0 == serial.0 {
+                return Some(hint);
+            }
+        }
+        self.find(serial)
+    }
+
     /// The serial of the object there. Constant time.
     pub fn serial_of(&self, slot: Slot) -> Serial
         requires { IsLive self.now slot.0 }
@@ -311,10 +327,10 @@ impl Segment {
         self.cells[slot.0].body.write_int(field, value);
     }
 
-    /// Makes a white object gray. Other objects, and serials with no object, stay as they are. Constant
-    /// time where the hash spreads the serials, and no memory.
+    /// Makes a white object gray. Other objects, and serials with no object, stay as they are. The slot is a hint
+    /// of where it lies: constant time where it is right, or the hash spreads the serials, and no memory.
     #[tactic(auto, using(crate::proofs::Rows::kept_view))]
-    pub fn make_gray(&mut self, serial: Serial)
+    pub fn make_gray(&mut self, serial: Serial, hint: Slot)
         ensures grayed { (row : Row) → row_at self.old serial.0 ≡ Some row → self.new ≡ with_row self.old serial.0 (Some (record row { color = gray_or_black row.color })) }
         ensures gone { row_at self.old serial.0 ≡ None → self.new ≡ self.old }
         ensures number { self.new.number ≡ self.old.number }
@@ -323,7 +339,7 @@ impl Segment {
         if at >= self.places.len() {
             return;
         }
-        let place = self.places.at(at);
+        let place = self.places.at_near(at, hint.0);
         match place {
             Place::At(slot, mark) => match mark {
                 Mark::White => {
@@ -331,11 +347,13 @@ impl Segment {
                     let (last, hint) = (self.last, self.last_slot);
                     self.last = serial.0;
                     self.last_slot = slot;
-                    self.places.mark_in(slot, Mark::Gray(0));
+                    self.places.mark_in(slot, Mark::Gray(0), 0);
                     if self.gray == 0 {
                         self.gray = serial.0;
+                        self.gray_slot = slot;
                     } else {
-                        self.places.follow(last as usize, hint, serial.0);
+                        self.places
+                            .follow(last as usize, hint, serial.0, short(slot));
                     }
                 }
                 Mark::Gray(_) => {}
@@ -372,7 +390,7 @@ impl Segment {
         }
         let serial = self.gray;
         let at = serial as usize;
-        let place = self.places.at(at);
+        let place = self.places.at_near(at, self.gray_slot);
         match place {
             Place::At(slot, mark) => match mark {
                 Mark::Gray(next) => {
@@ -381,7 +399,8 @@ impl Segment {
                         serial: Serial(serial),
                     };
                     let fields = copy_unless(&self.cells, slot, bound.covers(name), into);
-                    self.places.mark_in(slot, Mark::Black);
+                    self.gray_slot = self.places.near(slot);
+                    self.places.mark_in(slot, Mark::Black, 0);
                     self.gray = next;
                     Some(Visited { name, fields })
                 }

@@ -1,4 +1,4 @@
-use Rattle.std.proofs.Common.{◌≡◌, ◌+◌, List, [], ◌∷◌, ◌++◌, take, get_or, true, sym, subst, ◌∙◌}
+use Rattle.std.proofs.Common.{◌≡◌, ◌+◌, List, [], ◌∷◌, ◌++◌, take, get_or, true, sym, ap, subst, ◌∙◌}
 use Rattle.std.proofs.lemmas.List.{take_more}
 use Rattle.k_areas.specs.k_types.declared.names.Name.{Name}
 use Rattle.k_areas.specs.k_types.Names.{name_among}
@@ -26,7 +26,7 @@ loop-target-preserved c =
                 (subst (λ (ns : List Name). AreGrayBut a ns c.args.roots.now c.args.bound l) (sym more) (one_known a l (take i xs) c.args.roots.now c.args.bound x c.requires.clean c.loop-target.invariant.1 among low)),
           )
       | else-covers w ↦
-          let is : c.if-covers.area ≡ grayed l x = w.area-is ∙ w.make_gray.ensures in (
+          let is : c.if-covers.area ≡ grayed l x = w.area-is ∙ w.make_gray.ensures ∙ ap (grayed l) w.link.ensures in (
             subst (λ (y : AreaValue). HasDistinct y.segments) (sym is) (distinct_grayed l x c.loop-target.invariant.0),
             subst (λ (y : AreaValue). AreGrayBut a (take (i + 1) xs) c.args.roots.now c.args.bound y) (sym is)
                 (subst (λ (ns : List Name). AreGrayBut a ns c.args.roots.now c.args.bound (grayed l x)) (sym more) (one_grayed a l (take i xs) c.args.roots.now c.args.bound x c.requires.clean c.loop-target.invariant.1)),

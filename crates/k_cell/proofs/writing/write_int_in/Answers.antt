@@ -9,7 +9,7 @@ pub write_int-requires-clause-kind : goal.write_int-requires-clause-kind
 write_int-requires-clause-kind c = λ serial row lies.
     let at : Some c.in-Some.segment.now ≡ segment_at c.args.area.now.segments c.args.at.seg.0 = c.in-Some.ensures.value in
     let there : row_at c.in-Some.segment.now c.args.at.serial.0 ≡ Some c.requires.field.row = ap (λ (o : Option SegmentValue). row_in_segment o c.args.at.serial.0) at ∙ c.requires.field.there in
-    let slot : Some c.in-Some-find.slot.0 ≡ Some c.requires.field.row.slot = c.in-Some-find.ensures ∙ ap (option_map (λ (r : Row). r.slot)) there in
-    let is : c.in-Some-find.slot.0 ≡ c.requires.field.row.slot = cc in
+    let slot : Some c.in-Some-find_near.slot.0 ≡ Some c.requires.field.row.slot = c.in-Some-find_near.ensures ∙ ap (option_map (λ (r : Row). r.slot)) there in
+    let is : c.in-Some-find_near.slot.0 ≡ c.requires.field.row.slot = cc in
     subst (λ (r : Row). HasInt r.fields c.args.field)
-    (sym (same_row c.in-Some.segment.now c.in-Some-find.slot.0 serial c.args.at.serial.0 row c.requires.field.row c.made-given.ensures.sound lies there is)) c.requires.field.is
+    (sym (same_row c.in-Some.segment.now c.in-Some-find_near.slot.0 serial c.args.at.serial.0 row c.requires.field.row c.made-given.ensures.sound lies there is)) c.requires.field.is

@@ -8,5 +8,5 @@ use Rattle.k_mark.proofs.keeping.is_lower.Goals as goal
 
 pub returns-in-Refers : goal.returns-in-Refers
 returns-in-Refers c = λ t n e.
-    let same : n ≡ c.in-Refers.target = leads_there n c.in-Refers.target (ap (λ (s : Stored). content_leads_to n (content_of s)) (sym c.in-Refers.is) ∙ e) in
+    let same : n ≡ c.in-Refers.target.name = leads_there n c.in-Refers.target.name (ap (λ (s : Stored). content_leads_to n (content_of s)) (sym c.in-Refers.is) ∙ e) in
     ap (is_covered c.args.next) same ∙ sym c.covers.ensures ∙ t

@@ -22,14 +22,14 @@ refuse-requires g c =
 
 pub set_register-requires : goal.set_register-requires
 set_register-requires g c =
-    load_can_set g.before c.args.cell.now c.args.book.now c.args.reg c.args.base c.args.field c.requires (name_of c.link_in-at.result) c.link_in-at.ensures (option_map name_of c.linked.result)
-    (c.linked.ensures ∙ c.reference_in-value.ensures ∙ ap reference c.field.ensures ∙ ap (λ (n : Name). reference (field_among c.args.cell.now.value.objects n c.args.field)) c.name.ensures)
+    load_can_set g.before c.args.cell.now c.args.book.now c.args.reg c.args.base c.args.field c.requires (name_of c.link_in-at.result) c.link_in-at.ensures (option_map name_of c.reference_in-value.result)
+    (c.reference_in-value.ensures ∙ ap reference c.field.ensures)
 
 pub commit_heap-requires : goal.commit_heap-requires
 commit_heap-requires g c =
     load_changes g.before c.args.cell.now c.args.book.now c.args.reg c.args.base c.args.field c.requires (name_of c.link_in-at.result) c.link_in-at.ensures
     (ap (λ (p : Pid). c.link_in-at.result.seg.0 == p.0 + 1) (sym c.pid.ensures) ∙ sym c.is_own.ensures ∙ c.if-not-is_own.false)
-    c.reference_in-value.result
-    (c.reference_in-value.ensures ∙ ap reference c.field.ensures ∙ ap (λ (n : Name). reference (field_among c.args.cell.now.value.objects n c.args.field)) c.name.ensures)
+    c.named.result
+    (c.named.ensures ∙ c.reference_in-value.ensures ∙ ap reference c.field.ensures)
     c.set_register.new.cell c.set_register.new.book
-    (subst (λ (v : Option Name). HasSetRegister g.before c.args.cell.now c.set_register.new.cell c.args.book.now c.set_register.new.book c.args.reg.0 v) c.linked.ensures c.set_register.ensures)
+    (subst (λ (v : Option Name). HasSetRegister g.before c.args.cell.now c.set_register.new.cell c.args.book.now c.set_register.new.book c.args.reg.0 v) (sym c.named.ensures) c.set_register.ensures)

@@ -42,9 +42,8 @@ commit_heap-requires g c =
 
 pub cross-requires-clause-kind : goal.cross-requires-clause-kind
 cross-requires-clause-kind g c =
-    subst (λ (n : Name). IsTrue (is_ref (field_among c.args.cell.now.value.objects n c.args.field))) (sym c.name.ensures)
-    (store_kind g.before c.args.cell.now c.args.book.now c.args.base c.args.field c.args.value c.requires (name_of c.link_in-at.result) c.link_in-at.ensures
-    (ap (λ (p : Pid). c.link_in-at.result.seg.0 == p.0 + 1) (sym c.pid.ensures) ∙ sym c.is_own.ensures ∙ c.if-not-is_own.false))
+    store_kind g.before c.args.cell.now c.args.book.now c.args.base c.args.field c.args.value c.requires (name_of c.link_in-at.result) c.link_in-at.ensures
+    (ap (λ (p : Pid). c.link_in-at.result.seg.0 == p.0 + 1) (sym c.pid.ensures) ∙ sym c.is_own.ensures ∙ c.if-not-is_own.false)
 
 pub cross-requires-clause-exits : goal.cross-requires-clause-exits
 cross-requires-clause-exits g c = store_exit_room g.before c.args.cell.now c.args.book.now c.args.base c.args.field c.args.value c.requires
@@ -67,6 +66,4 @@ commit_heap-requires-2 g c =
     store_changes g.before c.args.cell.now c.args.book.now c.args.base c.args.field c.args.value c.requires (name_of c.link_in-at.result) c.link_in-at.ensures
     (ap (λ (p : Pid). c.link_in-at.result.seg.0 == p.0 + 1) (sym c.pid.ensures) ∙ sym c.is_own.ensures ∙ c.if-not-is_own.false)
     (name_of c.link_in-target.result) c.link_in-target.ensures c.cross.new.cell c.cross.new.book
-    (c.cross.ensures.cell
-    ∙ ap (λ (n : Name). record c.args.cell.now { value = with_field n c.args.field (Refers (Some (name_of c.link_in-target.result))) (with_exit_item (name_of c.link_in-target.result) c.args.cell.now.value) }) c.name.ensures)
-    c.cross.ensures.book c.cross.ensures.entered c.owner.result c.owner.ensures (sym c.passes_barrier.ensures ∙ c.if-not-passes_barrier.false)
+    c.cross.ensures.cell c.cross.ensures.book c.cross.ensures.entered c.owner.result c.owner.ensures (sym c.passes_barrier.ensures ∙ c.if-not-passes_barrier.false)

@@ -24,22 +24,22 @@ remember-requires g c =
 
 pub write_ref-requires-clause-idle : goal.write_ref-requires-clause-idle
 write_ref-requires-clause-idle g c =
-    still_idle g.S.StepName.before c.args.cell.now (g.O.OtherCell.seen c.args.other.now) c.args.book.now c.args.base c.args.field c.args.value c.requires c.object_in-at.result c.object_in-at.ensures
+    still_idle g.S.StepName.before c.args.cell.now (g.O.OtherCell.seen c.args.other.now) c.args.book.now c.args.base c.args.field c.args.value c.requires (name_of c.object_in-at.result) c.object_in-at.ensures
     (option_map name_of c.reg-reference.result) c.reg-reference.ensures c.in-Ok.ensures.fine (g.O.OtherCell.seen c.remember.new.other) c.remember.new.book c.remember.ensures
 
 pub write_ref-requires-clause-kind : goal.write_ref-requires-clause-kind
 write_ref-requires-clause-kind g c =
-    ap is_ref (same_field g.S.StepName.before c.args.cell.now (g.O.OtherCell.seen c.args.other.now) c.args.book.now c.args.base c.args.field c.args.value c.requires c.object_in-at.result c.object_in-at.ensures
+    ap is_ref (same_field g.S.StepName.before c.args.cell.now (g.O.OtherCell.seen c.args.other.now) c.args.book.now c.args.base c.args.field c.args.value c.requires (name_of c.object_in-at.result) c.object_in-at.ensures
     (option_map name_of c.reg-reference.result) c.reg-reference.ensures c.in-Ok.ensures.fine (g.O.OtherCell.seen c.remember.new.other) c.remember.new.book c.remember.ensures)
     ∙ c.in-Ok.ensures.kind
 
 pub commit-requires : goal.commit-requires
 commit-requires g c =
     rw (c.write_ref.ensures)
-    (stored g.S.StepName.before c.args.cell.now (g.O.OtherCell.seen c.args.other.now) c.args.book.now c.args.base c.args.field c.args.value c.requires c.object_in-at.result c.object_in-at.ensures
+    (stored g.S.StepName.before c.args.cell.now (g.O.OtherCell.seen c.args.other.now) c.args.book.now c.args.base c.args.field c.args.value c.requires (name_of c.object_in-at.result) c.object_in-at.ensures
     (option_map name_of c.reg-reference.result) c.reg-reference.ensures c.in-Ok.ensures.fine (g.O.OtherCell.seen c.remember.new.other) c.remember.new.book c.remember.ensures)
 
 pub commit-requires-in-Err : goal.commit-requires-in-Err
 commit-requires-in-Err g c =
-    store_refused g.S.StepName.before c.args.cell.now (g.O.OtherCell.seen c.args.other.now) c.args.book.now c.args.base c.args.field c.args.value c.requires c.object_in-at.result c.object_in-at.ensures
+    store_refused g.S.StepName.before c.args.cell.now (g.O.OtherCell.seen c.args.other.now) c.args.book.now c.args.base c.args.field c.args.value c.requires (name_of c.object_in-at.result) c.object_in-at.ensures
     (option_map name_of c.reg-reference.result) c.reg-reference.ensures c.in-Err.fault c.in-Err.ensures.fault

@@ -16,11 +16,14 @@ stands_first segments at number distinct e = by_segment (slice_get segments at) 
     by_segment (Some s) there e = sym (distinct at s there) ∙ ap (place_of segments) (eqb-true s.number number e)
 
 pub returns-then-stands_at : goal.returns-then-stands_at
-returns-then-stands_at c = stands_first c.args.segments.now c.in-Some.hint.now c.args.seg.0 c.requires.distinct (sym c.stands_at.ensures ∙ c.if-stands_at.true)
+returns-then-stands_at c = stands_first c.args.segments.now 0 c.args.seg.0 c.requires.distinct (sym c.stands_at.ensures ∙ c.if-stands_at.true)
+
+pub returns-then-stands_at-2 : goal.returns-then-stands_at-2
+returns-then-stands_at-2 c = stands_first c.args.segments.now c.in-Some.hint.now c.args.seg.0 c.requires.distinct (sym c.stands_at-in-Some.ensures ∙ c.if-stands_at-2.true)
 
 pub returns-in-None : goal.returns-in-None
 returns-in-None c = none_below (position_or_len (λ s. s.number == c.args.seg.0) c.args.segments.now) (length c.args.segments.now) (prefix_len-le-length _ _) (sym c.in-None.ensures)
 
 pub returns-then-exact : goal.returns-then-exact
 returns-then-exact c =
-    none_told c.args.segments.now c.args.hints.now c.args.seg.0 c.in-Some.hint.now _ (c.requires.exact c.if-exact.true) c.in-Some.ensures.lookup.0 c.in-Some.ensures.lookup.1 (sym c.stands_at.ensures ∙ c.if-stands_at.false)
+    none_told c.args.segments.now c.args.hints.now c.args.seg.0 c.in-Some.hint.now _ (c.requires.exact c.if-exact.true) c.in-Some.ensures.lookup.0 c.in-Some.ensures.lookup.1 (sym c.stands_at-in-Some.ensures ∙ c.if-stands_at-2.false)

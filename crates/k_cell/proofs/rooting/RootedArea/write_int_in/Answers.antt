@@ -1,5 +1,6 @@
 use Rattle.std.proofs.Common.{◌≡◌, sym, subst, ◌∙◌}
 use Rattle.std.proofs.lemmas.Bool.{false≢true}
+use Rattle.k_areas.specs.k_types.Names.{name_of}
 use Rattle.k_areas.specs.k_types.State.{Holds}
 use Rattle.k_areas.specs.k_space.Areas.{AreaValue, HasDistinct}
 use Rattle.k_cell.specs.Placed.{IsIntAt, IsWrittenIn}
@@ -20,9 +21,9 @@ write_int_in-requires-clause-distinct c =
 pub write_int_in-requires-clause-field : goal.write_int_in-requires-clause-field
 write_int_in-requires-clause-field c =
     let seen : c.settle.new.area ≡ c.args.self.now = c.settle.ensures.area ∙ c.self.view_is in
-    subst (λ (x : AreaValue). IsIntAt x.segments c.args.at c.args.field) (sym seen) c.requires.field
+    subst (λ (x : AreaValue). IsIntAt x.segments (name_of c.args.at) c.args.field) (sym seen) c.requires.field
 
 pub returns : goal.returns
 returns c =
     let seen : c.settle.new.area ≡ c.args.self.now = c.settle.ensures.area ∙ c.self.view_is in
-    rw c.settle.ensures.none (subst (λ (x : AreaValue). IsWrittenIn x c.write_int_in.new.area c.args.at c.args.field (Holds c.args.value)) seen c.write_int_in.ensures)
+    rw c.settle.ensures.none (subst (λ (x : AreaValue). IsWrittenIn x c.write_int_in.new.area (name_of c.args.at) c.args.field (Holds c.args.value)) seen c.write_int_in.ensures)

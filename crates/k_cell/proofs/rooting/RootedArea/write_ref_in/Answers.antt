@@ -21,9 +21,9 @@ write_ref_in-requires-clause-distinct c =
 pub write_ref_in-requires-clause-field : goal.write_ref_in-requires-clause-field
 write_ref_in-requires-clause-field c =
     let seen : c.settle.new.area ≡ c.args.self.now = c.settle.ensures.area ∙ c.self.view_is in
-    subst (λ (x : AreaValue). IsRefAt x.segments c.args.at c.args.field) (sym seen) c.requires.field
+    subst (λ (x : AreaValue). IsRefAt x.segments (name_of c.args.at) c.args.field) (sym seen) c.requires.field
 
 pub returns : goal.returns
 returns c =
     let seen : c.settle.new.area ≡ c.args.self.now = c.settle.ensures.area ∙ c.self.view_is in
-    rw c.settle.ensures.none (subst (λ (x : AreaValue). IsWrittenIn x c.write_ref_in.new.area c.args.at c.args.field (Refers (option_map name_of c.args.value))) seen c.write_ref_in.ensures)
+    rw c.settle.ensures.none (subst (λ (x : AreaValue). IsWrittenIn x c.write_ref_in.new.area (name_of c.args.at) c.args.field (Refers (option_map name_of c.args.value))) seen c.write_ref_in.ensures)

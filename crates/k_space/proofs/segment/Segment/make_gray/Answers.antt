@@ -12,13 +12,13 @@ use Rattle.k_space.proofs.Bytes.{bytes_recolored}
 use Rattle.k_space.proofs.segment.Segment.make_gray.Goals as goal
 
 pub mark_in-requires : goal.mark_in-requires
-mark_in-requires c = record { serial = c.args.serial.0; was = MarkWhite; there = sym c.at-place.ensures ∙ (c.in-At.is ∙ ap (At c.in-At.slot) c.in-White.is) }
+mark_in-requires c = record { serial = c.args.serial.0; was = MarkWhite; there = sym c.at_near-place.ensures ∙ (c.in-At.is ∙ ap (At c.in-At.slot) c.in-White.is) }
 
 pub follow-requires : goal.follow-requires
 follow-requires c =
     let places = c.self.inside.places.items in
     let within : c.args.serial.0 < length places = omega arith in
-    let here = sym c.at-place.ensures ∙ (c.in-At.is ∙ ap (At c.in-At.slot) c.in-White.is) in
+    let here = sym c.at_near-place.ensures ∙ (c.in-At.is ∙ ap (At c.in-At.slot) c.in-White.is) in
     let end = gray_end places _ c.self.inside.gray c.self.inside.last (above_zero c.self.inside.gray c.if-self-eq0.false) c.self.invariant.sound.grays c.self.invariant.last in
     let first = past_first places c.args.serial.0 c.in-At.slot MarkWhite c.self.invariant.sound.first here in
     rw (c.mark_in.ensures c.args.serial.0 MarkWhite here) (record { slot = end.slot; there = still places c.self.inside.last c.args.serial.0 c.in-At.slot end.slot c.self.invariant.last end.there (ap is_gray_place here) first within })
@@ -27,7 +27,7 @@ pub invariant_of-self : goal.invariant_of-self
 invariant_of-self c =
     let places = c.self.inside.places.items in
     let within : c.args.serial.0 < length places = omega arith in
-    let here = sym c.at-place.ensures ∙ (c.in-At.is ∙ ap (At c.in-At.slot) c.in-White.is) in
+    let here = sym c.at_near-place.ensures ∙ (c.in-At.is ∙ ap (At c.in-At.slot) c.in-White.is) in
     let none = subst (λ (h : ℕ). IsGrayList places (count_by is_gray_place places) h) c.if-self-eq0.true c.self.invariant.sound.grays in
     rw (c.mark_in.ensures c.args.serial.0 MarkWhite here) (record {
       sound =
@@ -43,7 +43,7 @@ pub invariant_of-self-else-self-eq0 : goal.invariant_of-self-else-self-eq0
 invariant_of-self-else-self-eq0 c =
     let places = c.self.inside.places.items in
     let within : c.args.serial.0 < length places = omega arith in
-    let here = sym c.at-place.ensures ∙ (c.in-At.is ∙ ap (At c.in-At.slot) c.in-White.is) in
+    let here = sym c.at_near-place.ensures ∙ (c.in-At.is ∙ ap (At c.in-At.slot) c.in-White.is) in
     let some = above_zero c.self.inside.gray c.if-self-eq0.false in
     let end = gray_end places _ c.self.inside.gray c.self.inside.last some c.self.invariant.sound.grays c.self.invariant.last in
     let first = past_first places c.args.serial.0 c.in-At.slot MarkWhite c.self.invariant.sound.first here in
@@ -68,7 +68,7 @@ invariant_of-self-else-self-eq0 c =
 pub returns-then-self-eq0-clause-grayed : goal.returns-then-self-eq0-clause-grayed
 returns-then-self-eq0-clause-grayed c = λ row at.
     let places = c.self.inside.places.items in
-    let here = sym c.at-place.ensures ∙ (c.in-At.is ∙ ap (At c.in-At.slot) c.in-White.is) in
+    let here = sym c.at_near-place.ensures ∙ (c.in-At.is ∙ ap (At c.in-At.slot) c.in-White.is) in
     let placed = c.self.invariant.sound.placed c.args.serial.0 c.in-At.slot MarkWhite here in
     let some = row_there _ _ places c.self.inside.cells c.args.self.now c.args.serial.0 c.in-At.slot MarkWhite (Some placed.cell) c.self.view_is here placed.there in
     let same = some_one (sym at ∙ some) in
@@ -80,7 +80,7 @@ pub returns-else-self-eq0-clause-grayed : goal.returns-else-self-eq0-clause-gray
 returns-else-self-eq0-clause-grayed c = λ row at.
     let places = c.self.inside.places.items in
     let within : c.args.serial.0 < length places = omega arith in
-    let here = sym c.at-place.ensures ∙ (c.in-At.is ∙ ap (At c.in-At.slot) c.in-White.is) in
+    let here = sym c.at_near-place.ensures ∙ (c.in-At.is ∙ ap (At c.in-At.slot) c.in-White.is) in
     let placed = c.self.invariant.sound.placed c.args.serial.0 c.in-At.slot MarkWhite here in
     let some = row_there _ _ places c.self.inside.cells c.args.self.now c.args.serial.0 c.in-At.slot MarkWhite (Some placed.cell) c.self.view_is here placed.there in
     let same = some_one (sym at ∙ some) in
@@ -96,7 +96,7 @@ returns-else-self-eq0-clause-grayed c = λ row at.
 pub returns-then-self-eq0-clause-gone : goal.returns-then-self-eq0-clause-gone
 returns-then-self-eq0-clause-gone c = λ none.
     let places = c.self.inside.places.items in
-    let here = sym c.at-place.ensures ∙ (c.in-At.is ∙ ap (At c.in-At.slot) c.in-White.is) in
+    let here = sym c.at_near-place.ensures ∙ (c.in-At.is ∙ ap (At c.in-At.slot) c.in-White.is) in
     let placed = c.self.invariant.sound.placed c.args.serial.0 c.in-At.slot MarkWhite here in
     let some = row_there _ _ places c.self.inside.cells c.args.self.now c.args.serial.0 c.in-At.slot MarkWhite (Some placed.cell) c.self.view_is here placed.there in
     let both = sym none ∙ some in
@@ -105,7 +105,7 @@ returns-then-self-eq0-clause-gone c = λ none.
 pub returns-else-self-eq0-clause-gone : goal.returns-else-self-eq0-clause-gone
 returns-else-self-eq0-clause-gone c = λ none.
     let places = c.self.inside.places.items in
-    let here = sym c.at-place.ensures ∙ (c.in-At.is ∙ ap (At c.in-At.slot) c.in-White.is) in
+    let here = sym c.at_near-place.ensures ∙ (c.in-At.is ∙ ap (At c.in-At.slot) c.in-White.is) in
     let placed = c.self.invariant.sound.placed c.args.serial.0 c.in-At.slot MarkWhite here in
     let some = row_there _ _ places c.self.inside.cells c.args.self.now c.args.serial.0 c.in-At.slot MarkWhite (Some placed.cell) c.self.view_is here placed.there in
     let both = sym none ∙ some in

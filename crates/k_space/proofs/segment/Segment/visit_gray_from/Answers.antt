@@ -19,7 +19,7 @@ returns-then-self-eq0-clause-none c = λ serial.
     ∙ gray_row c.self.inside.cells (get_or places serial Empty) (none_gray places (no_head places _ grays) serial)
 
 pub mark_in-requires : goal.mark_in-requires
-mark_in-requires c = record { serial = c.self.inside.gray; was = MarkGray c.in-Gray.next; there = sym c.at-place.ensures ∙ (c.in-At.is ∙ ap (At c.in-At.slot) c.in-Gray.is) }
+mark_in-requires c = record { serial = c.self.inside.gray; was = MarkGray c.in-Gray.next; there = sym c.at_near-place.ensures ∙ (c.in-At.is ∙ ap (At c.in-At.slot) c.in-Gray.is) }
 
 pub invariant_of-self : goal.invariant_of-self
 invariant_of-self c =
@@ -27,7 +27,7 @@ invariant_of-self c =
     let at = c.self.inside.gray in
     let some = above_zero at c.if-self-eq0.false in
     let first = head_gray places _ at some c.self.invariant.sound.grays in
-    let here = sym c.at-place.ensures ∙ (c.in-At.is ∙ ap (At c.in-At.slot) c.in-Gray.is) in
+    let here = sym c.at_near-place.ensures ∙ (c.in-At.is ∙ ap (At c.in-At.slot) c.in-Gray.is) in
     rw (c.mark_in.ensures c.self.inside.gray (MarkGray c.in-Gray.next) here) (record {
       sound =
           recolored places c.self.inside.cells c.self.inside.room _ at c.in-Gray.next at c.in-At.slot (MarkGray c.in-Gray.next) MarkBlack c.self.invariant.sound here
@@ -43,7 +43,7 @@ unreachable-requires c =
     let places = c.self.inside.places.items in
     let at = c.self.inside.gray in
     let first = head_gray places _ at (above_zero at c.if-self-eq0.false) c.self.invariant.sound.grays in
-    let here = sym c.at-place.ensures ∙ (c.in-At.is ∙ ap (At c.in-At.slot) c.in-White.is) in
+    let here = sym c.at_near-place.ensures ∙ (c.in-At.is ∙ ap (At c.in-At.slot) c.in-White.is) in
     let both : At first.0 (MarkGray first.1) ≡ At c.in-At.slot MarkWhite = sym first.2 ∙ here in
     cc
 
@@ -52,13 +52,13 @@ unreachable-requires-in-Black c =
     let places = c.self.inside.places.items in
     let at = c.self.inside.gray in
     let first = head_gray places _ at (above_zero at c.if-self-eq0.false) c.self.invariant.sound.grays in
-    let here = sym c.at-place.ensures ∙ (c.in-At.is ∙ ap (At c.in-At.slot) c.in-Black.is) in
+    let here = sym c.at_near-place.ensures ∙ (c.in-At.is ∙ ap (At c.in-At.slot) c.in-Black.is) in
     let both : At first.0 (MarkGray first.1) ≡ At c.in-At.slot MarkBlack = sym first.2 ∙ here in
     cc
 
 pub copy_unless-fields-requires-clause-live : goal.copy_unless-fields-requires-clause-live
 copy_unless-fields-requires-clause-live c =
-    let here = sym c.at-place.ensures ∙ (c.in-At.is ∙ ap (At c.in-At.slot) c.in-Gray.is) in
+    let here = sym c.at_near-place.ensures ∙ (c.in-At.is ∙ ap (At c.in-At.slot) c.in-Gray.is) in
     ap is_some (c.self.invariant.sound.placed c.self.inside.gray c.in-At.slot (MarkGray c.in-Gray.next) here).there
 
 pub copy_unless-fields-requires-clause-few : goal.copy_unless-fields-requires-clause-few
@@ -66,7 +66,7 @@ copy_unless-fields-requires-clause-few c = λ cell e. (c.self.invariant.sound.ke
 
 pub returns-clause-some : goal.returns-clause-some
 returns-clause-some c =
-    let here = sym c.at-place.ensures ∙ (c.in-At.is ∙ ap (At c.in-At.slot) c.in-Gray.is) in
+    let here = sym c.at_near-place.ensures ∙ (c.in-At.is ∙ ap (At c.in-At.slot) c.in-Gray.is) in
     let placed = c.self.invariant.sound.placed c.self.inside.gray c.in-At.slot (MarkGray c.in-Gray.next) here in
     rw (c.mark_in.ensures c.self.inside.gray (MarkGray c.in-Gray.next) here)
     (visited c.args.bound _ _ c.self.inside.places.items c.self.inside.cells c.args.self.now c.self.inside.gray c.in-At.slot c.in-Gray.next placed.cell c.copy_unless-fields.result c.copy_unless-fields.new.into c.self.view_is here placed.there c.copy_unless-fields.ensures.most
