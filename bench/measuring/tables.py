@@ -187,11 +187,11 @@ def inside(given):
     return table(["processes", "`kaffe run`, operations a µs", "the peer, operations a µs"], rows)
 
 
-def collection_ms(given, objects, collections=GAP_COLLECTIONS):
+def collection_ms(given, operations, objects, collections):
     """The milliseconds of one collection of a list: the difference of two runs, with and without collections."""
     times = []
     for count in (0, collections):
-        source = given.file("collected.kaffe", traces.collected(objects, count))
+        source = given.file("collected.kaffe", traces.trace([operations(objects, count)]))
         job = Job([given.programs.kaffe, "run"], source, environment=given.programs.watched())
         (series,) = given.runner.series([job], given.runs)
         times.append(min(last_watched(run)[0] for run in series.runs))
@@ -202,7 +202,7 @@ def visits(given):
     """Collections of one heap whose objects all live, again and again."""
     rows = []
     for objects, collections in [(1_000, 600)] if given.quick else [(100, 60_000), (1_000, 6_000), (10_000, 600), (60_000, 100)]:
-        took = collection_ms(given, objects, collections)
+        took = collection_ms(given, traces.collected, objects, collections)
         rows.append([f"{objects:,}", f"{collections:,}", f"{took * collections:.1f}", f"{took * 1e6 / objects:.1f}"])
     return table(["live objects", "collections", "all of them, ms", "ns a live object"], rows)
 
@@ -225,9 +225,9 @@ def overlapped(report):
 
 def gap_rounds(objects):
     """How many rounds of three operations the sibling does: as many as a trace has room for beside so long a list."""
-    left = MOST_OPERATIONS - GAP_COLLECTIONS - 2 * objects
-    # A list that no trace has room for is run by a build that allows more operations.
-    return (left if left > 0 else MOST_OPERATIONS // 2) // 3
+    left = MOST_OPERATIONS - len(traces.written_and_collected(objects, GAP_COLLECTIONS))
+    # A list that no trace has room for is run by a build that allows more operations. The sibling has to go on until all is collected.
+    return left // 3 if left > 0 else objects
 
 
 def gaps(given):
@@ -245,13 +245,13 @@ def gaps(given):
                 return [f"Not measured: of {rounds} objects of the sibling only {freed} were seen to be freed."]
             longest.append(gap)
             both = max(both, overlapped(report))
-        neighbour = given.file("collected.kaffe", traces.collected(objects, GAP_COLLECTIONS))
+        neighbour = given.file("collected.kaffe", traces.trace([traces.written_and_collected(objects, GAP_COLLECTIONS)]))
         run = given.runner.run(Job([given.programs.kaffe, "run"], neighbour, environment=given.programs.watched(frees=True)))
         if last_watched(run)[2] > rounds // 100:
             return [f"Not measured: the neighbour alone calls `free` {last_watched(run)[2]} times, so that gaps are not the sibling's."]
-        took = collection_ms(given, objects)
+        took = collection_ms(given, traces.written_and_collected, objects, GAP_COLLECTIONS)
         rows.append([f"`kaffe`, {objects:,}", f"{took:.2f}", f"{min(longest):.3f}", f"{sorted(longest)[len(longest) // 2]:.3f}",
-                     f"{both} of {GAP_COLLECTIONS}"])
+                     f"{both} of {GAP_COLLECTIONS + 2}"])
     for objects in [2_000] if given.quick else [60_000, 1_000_000]:
         for form in ("book", "inside"):
             rows.append(peer_gap(given, objects, form))

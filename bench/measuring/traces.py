@@ -1,9 +1,14 @@
 """The traces that are measured, but for those of `scripts/greatest`."""
 
-HEADER = ["kaffe 1", "kernel 80 8", "type Node ref ref int"]
-NODE_BYTES = 40
+HEADER = ["kaffe 1", "kernel 80 8", "type Node ref ref int", "type Wide" + 16 * " int"]
+NODE_BYTES, WIDE_BYTES = 40, 144
 # After so many objects a process drops its registers and collects its heap.
 COLLECTED_EACH = 10
+
+
+def bytes_of(line):
+    """What the operation is charged, where it makes an object."""
+    return 0 if not line.startswith("new ") else WIDE_BYTES if line.endswith(" Wide") else NODE_BYTES
 
 
 def trace(operations):
@@ -13,7 +18,7 @@ def trace(operations):
     """
     if len(operations) == 1:
         operations = [*operations, []]
-    room = [NODE_BYTES * max(1, sum(" new " in f" {line} " for line in lines)) for lines in operations]
+    room = [max(NODE_BYTES, sum(bytes_of(line) for line in lines)) for lines in operations]
     lines = [*HEADER, f"limit root {sum(room)}"]
     lines += [f"limit l{process} root hard {bytes_}" for process, bytes_ in enumerate(room)]
     lines += [f"proc w{process} l{process}" for process in range(len(operations))]
@@ -45,10 +50,22 @@ def list_of(objects):
 
 
 def collected(objects, collections):
-    """A process that makes a list and collects its heap so many times."""
-    return trace([list_of(objects) + collections * ["collect"]])
+    """The operations of a process that makes a list and collects its heap so many times."""
+    return list_of(objects) + collections * ["collect"]
+
+
+def written_and_collected(objects, collections):
+    """The operations of a process that makes a list, and so many times writes a reference into it and collects its heap.
+
+    So each collection marks all objects anew. Before the first of these and after the last one it makes a wide object, drops it and collects,
+    which whoever watches its calls of `free` can tell from all others. The reference that is written stands there already.
+    """
+    newest = (objects + 1) % 2
+    written = [f"store r{newest} 0 r{1 - newest}", "collect"]
+    marker = ["new r2 Wide", "drop r2", "collect"]
+    return [*list_of(objects), *marker, *(collections * written), *marker]
 
 
 def beside(objects, collections, rounds):
-    """The same, and a sibling that makes an object, drops it and collects, which needs the book three times a round."""
-    return trace([list_of(objects) + collections * ["collect"], rounds * ["new r0 Node", "drop r0", "collect"]])
+    """Such a process, and a sibling that makes an object, drops it and collects, which needs the book three times a round."""
+    return trace([written_and_collected(objects, collections), rounds * ["new r0 Node", "drop r0", "collect"]])

@@ -4,10 +4,11 @@
 //! thread was started; the longest time between two calls of `free` meanwhile, by whatever thread; and how many calls there were. The last
 //! such line counts: the program's first thread works too, and waits for the others when it has nothing more to do. Calls of `free` are
 //! watched only where the environment has WATCH_FREE. In a run of which one process alone frees objects, the longest gap is that of this
-//! process.
+//! process. Gaps are looked at from the first call that gives back a wide piece of memory up to the second one, which another process can make.
 #![no_std]
 
 use core::ffi::{c_char, c_int, c_void, CStr};
+use core::ops::Range;
 use core::sync::atomic::{AtomicBool, AtomicU64, Ordering::SeqCst};
 
 type Create = unsafe extern "C" fn(*mut c_void, *const c_void, *const c_void, *mut c_void) -> c_int;
@@ -25,17 +26,22 @@ extern "C" {
     fn dlsym(library: *mut c_void, name: *const c_char) -> *mut c_void;
     fn dprintf(file: c_int, format: *const c_char, ...) -> c_int;
     fn getenv(name: *const c_char) -> *const c_char;
+    fn malloc_usable_size(memory: *mut c_void) -> usize;
 }
 
 const CLOCK_MONOTONIC: c_int = 1;
 const RTLD_NEXT: *mut c_void = usize::MAX as *mut c_void;
 const STANDARD_ERROR: c_int = 2;
 
+/// A piece of memory of so many bytes is wide: as the sixteen fields of an object have, and no three.
+const WIDE: Range<usize> = 200..400;
+
 static BEGAN: AtomicU64 = AtomicU64::new(0);
 static WATCHES_FREE: AtomicBool = AtomicBool::new(false);
 static LAST: AtomicU64 = AtomicU64::new(0);
 static LONGEST: AtomicU64 = AtomicU64::new(0);
 static FREED: AtomicU64 = AtomicU64::new(0);
+static LOOKS: AtomicBool = AtomicBool::new(false);
 
 #[panic_handler]
 fn panic(_: &core::panic::PanicInfo) -> ! {
@@ -80,13 +86,19 @@ pub unsafe extern "C" fn pthread_join(thread: usize, result: *mut *mut c_void) -
 /// As the C library's.
 #[no_mangle]
 pub unsafe extern "C" fn free(memory: *mut c_void) {
-    __libc_free(memory);
-    if WATCHES_FREE.load(SeqCst) {
-        let now = now();
-        let last = LAST.swap(now, SeqCst);
-        if last != 0 {
-            LONGEST.fetch_max(now.saturating_sub(last), SeqCst);
-        }
-        FREED.fetch_add(1, SeqCst);
+    if !WATCHES_FREE.load(SeqCst) {
+        __libc_free(memory);
+        return;
     }
+    let is_wide = WIDE.contains(&malloc_usable_size(memory));
+    __libc_free(memory);
+    let now = now();
+    let last = LAST.swap(now, SeqCst);
+    if LOOKS.load(SeqCst) {
+        LONGEST.fetch_max(now.saturating_sub(last), SeqCst);
+    }
+    if is_wide {
+        LOOKS.fetch_xor(true, SeqCst);
+    }
+    FREED.fetch_add(1, SeqCst);
 }
