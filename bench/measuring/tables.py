@@ -23,7 +23,7 @@ CHECK_OBJECTS = [1250, 2500, 5000]
 CHECK_TRACES = ["chain", "turns", "store", "collect_live"]
 AUDIT_OBJECTS = [10_000, 100_000, 1_000_000]
 GAP_COLLECTIONS = 20
-GAP_OBJECTS = [10_000, 40_000, 60_000]
+GAP_OBJECTS = [10_000, 20_000, 40_000]
 MOST_OPERATIONS = 200_000
 
 
@@ -237,26 +237,27 @@ def gaps(given):
         rounds = 2_000 if given.quick else gap_rounds(objects)
         source = given.file("gaps.kaffe", traces.beside(objects, GAP_COLLECTIONS, rounds))
         report = given.folder / "report"
-        longest, both = [], 0
+        whole = []
         for _ in range(given.runs):
             run = given.runner.run(Job([given.programs.kaffe, "run"], source, report, environment=given.programs.watched(frees=True)))
             _, gap, freed = last_watched(run)
             if freed < rounds // 2:
                 return [f"Not measured: of {rounds} objects of the sibling only {freed} were seen to be freed."]
-            longest.append(gap)
-            both = max(both, overlapped(report))
+            # Where the sibling has done all that it has to do, nobody waits: that is no gap.
+            if overlapped(report) == GAP_COLLECTIONS + 2:
+                whole.append(gap)
         neighbour = given.file("collected.kaffe", traces.trace([traces.written_and_collected(objects, GAP_COLLECTIONS)]))
         run = given.runner.run(Job([given.programs.kaffe, "run"], neighbour, environment=given.programs.watched(frees=True)))
         if last_watched(run)[2] > rounds // 100:
             return [f"Not measured: the neighbour alone calls `free` {last_watched(run)[2]} times, so that gaps are not the sibling's."]
         took = collection_ms(given, traces.written_and_collected, objects, GAP_COLLECTIONS)
-        rows.append([f"`kaffe`, {objects:,}", f"{took:.2f}", f"{min(longest):.3f}", f"{sorted(longest)[len(longest) // 2]:.3f}",
-                     f"{both} of {GAP_COLLECTIONS + 2}"])
+        gap = [f"{min(whole):.3f}", f"{sorted(whole)[len(whole) // 2]:.3f}"] if whole else ["", ""]
+        rows.append([f"`kaffe`, {objects:,}", f"{took:.2f}", *gap, f"{len(whole)} of {given.runs}"])
     for objects in [2_000] if given.quick else [60_000, 1_000_000]:
         for form in ("book", "inside"):
             rows.append(peer_gap(given, objects, form))
     columns = ["live objects of the neighbour", "its collection, ms", "longest gap, least of the runs, ms", "median, ms"]
-    return table([*columns, "collections with an event of the sibling inside"], rows)
+    return table([*columns, "runs with the sibling at work in each collection"], rows)
 
 
 def peer_gap(given, objects, form):
