@@ -88,18 +88,20 @@ ROWS = """## Others
 |---|---|---|
 | `k_it` | `one`, `two`, `three` | refused, 2026-01-01 |
 | `k_it` | `four` | refused, 2026-01-01, by the compiler: it does not compile |
+| `k_it` | `six` | refused, 2026-01-01, by a check of the crate |
 | `k_more` | `five` | not yet planted |
 """
 LOG = """# planted on 2026-01-02
 k_it/two: refused, by a check of the changed function alone: src/tables.rt:3:1: error: no
 k_it/three: NOT REFUSED
+k_it/six: refused, by a check of the changed function alone: note: no
 k_it/four: refused, by the compiler: it does not compile: src/tables.rt:3:1: error[borrow]: no
 k_more/five: refused, by one check with other bodies, each at its own function: note: no
 k_it/one: refused, by a proof file alone, which names what the edit took away: no
 # k_it: 4 bodies, 9 s
 """
 DATED = """| `k_it` | `one`, `three` | refused, 2026-01-01 |
-| `k_it` | `two` | refused, 2026-01-02, by a check of the changed function alone |
+| `k_it` | `two`, `six` | refused, 2026-01-02, by a check of the changed function alone |
 | `k_it` | `four` | refused, 2026-01-02, by the compiler: it does not compile |
 | `k_more` | `five` | refused, 2026-01-02, by one check with other bodies, each at its own function |
 """

@@ -43,13 +43,25 @@ def refused(texts):
     return found
 
 
-def redated(crate, names, result, results):
-    """The rows in place of one row: what has no new result stays as it is, and the others stand below it by their results."""
-    by = {}
-    for name in names:
-        by.setdefault(results.get((crate, name), result), []).append(name)
-    for said in sorted(by, key=lambda it: it != result):
-        yield f"| `{crate}` | {', '.join(f'`{name}`' for name in by[said])} | {said} |"
+def row(crate, names, result):
+    return f"| `{crate}` | {', '.join(f'`{name}`' for name in names)} | {result} |"
+
+
+def redated(old, results):
+    """The rows in place of each of these, by the number of its line. What has a new result comes into one row for each crate and result."""
+    made, moved = {}, {}
+    for number, crate, names, result in old:
+        by = {result: []}
+        for name in names:
+            by.setdefault(results.get((crate, name), result), []).append(name)
+        made[number] = [(crate, by.pop(result), result)]
+        for said, names_so in by.items():
+            if (crate, said) in moved:
+                moved[crate, said].extend(names_so)
+            else:
+                moved[crate, said] = names_so
+                made[number].append((crate, names_so, said))
+    return {number: [row(*it) for it in rows_there if it[1]] for number, rows_there in made.items()}
 
 
 def put_dates(top, logs):
@@ -58,11 +70,10 @@ def put_dates(top, logs):
     for log in logs:
         with open(log, encoding="utf-8") as file:
             texts.append(file.read())
-    results, known = refused(texts), set()
+    results, old = refused(texts), list(rows(top))
+    known, made = {(crate, name) for _, crate, names, _ in old for name in names}, redated(old, results)
     lines = (top / PAGE).read_text(encoding="utf-8").split("\n")
-    for number, crate, names, result in rows(top):
-        known |= {(crate, name) for name in names}
-        lines[number] = "\n".join(redated(crate, names, result, results))
+    lines = [it for number, line in enumerate(lines) for it in made.get(number, [line])]
     (top / PAGE).write_text("\n".join(lines), encoding="utf-8")
     for crate, name in sorted(results.keys() - known):
         print(f"{PAGE} has no row with {crate}/{name}")
