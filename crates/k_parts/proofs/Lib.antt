@@ -1,0 +1,4 @@
+pub mod Met
+pub mod Kept
+pub mod Came
+pub mod Together

@@ -1,0 +1,30 @@
+use Rattle.std.proofs.Common.{◌∙◌, ◌++◌, ◌∷◌, [], refl, sym, ap, length, map}
+use Rattle.std.proofs.lemmas.Iterator.Adapters.{YieldsList-from_vec}
+use Rattle.std.proofs.lemmas.Iterator.Consumers.{YieldsList-end, YieldsList-turn}
+use Rattle.std.proofs.lemmas.List.{map-append, map-id}
+use Rattle.std.proofs.lemmas.Option.{slice_get_read}
+use Rattle.k_parts.specs.Parts.{SharedPartValue}
+use Rattle.k_parts.specs.Splitting.{heap_in}
+use Rattle.k_parts.proofs.splitting.split_heaps.Goals as goal
+
+pub loop-heap-init : goal.loop-heap-init
+loop-heap-init g c = ap (map heap_in) c.new-made.ensures.items
+
+pub of-requires : goal.of-requires
+of-requires g c =
+    let road = YieldsList-from_vec {s = c.into_iter-heap-iterator.result} c.args.heaps.items c.into_iter-heap-iterator.ensures.into_iter_gives.0 (c.into_iter-heap-iterator.ensures.into_iter_gives.1 ∙ c.args.heaps.ok.0) in
+    let turn = YieldsList-turn road c.loop-heap.yielded _ c.loop-heap.yielded_by _ c.next.new.self c.in-Some.heap c.in-Some.is c.next.ensures.steps in
+    c.requires (length c.loop-heap.yielded) c.in-Some.heap (slice_get_read c.args.heaps.items (length c.args.heaps.items) (length c.loop-heap.yielded) c.in-Some.heap refl turn.0 turn.1)
+
+pub loop-heap-preserved : goal.loop-heap-preserved
+loop-heap-preserved g c =
+    ap (map heap_in) c.in_ok-push.ensures.items
+    ∙ map-append heap_in c.loop-heap.made.items (c.in_ok-of.field-0 ∷ [])
+    ∙ ap (λ xs. xs ++ heap_in c.in_ok-of.field-0 ∷ []) c.loop-heap.invariant
+    ∙ ap (λ (p : SharedPartValue). c.loop-heap.yielded ++ heap_in p ∷ []) c.in_ok-of.ensures
+
+pub returns : goal.returns
+returns g c =
+    let road = YieldsList-from_vec {s = c.into_iter-heap-iterator.result} c.args.heaps.items c.into_iter-heap-iterator.ensures.into_iter_gives.0 (c.into_iter-heap-iterator.ensures.into_iter_gives.1 ∙ c.args.heaps.ok.0) in
+    let end = YieldsList-end road c.loop-heap.yielded _ c.loop-heap.yielded_by _ c.next.new.self c.in-None.is c.next.ensures.steps in
+    c.loop-heap.invariant ∙ sym (map-id c.loop-heap.yielded) ∙ end.0
