@@ -1,0 +1,29 @@
+//! Why a journal is not printed.
+ghost use Rattle.std.specs.Prelude.{◌≡◌};
+
+use k_io::NoMemory;
+
+/// Why a journal is not printed.
+#[derive(Clone, Copy, Debug, PartialEq, Eq)]
+pub enum PrintError {
+    /// Memory ran out.
+    NoMemory(NoMemory),
+    /// An operation names a field that no line of a trace can have, 16 or one above.
+    Unspelled,
+    /// There are more operations than a trace can have, 200,000.
+    TooMany,
+    /// A collection is open.
+    Open,
+    /// Every process has ended, and the report of such a journal would have to end with the last collection.
+    Over,
+}
+
+impl From<NoMemory> for PrintError {
+    ghost use Rattle.k_print.specs.declared.errors.PrintError.TheVariants as print_errors;
+
+    ghost from_gives = { λ refused e. e ≡ print_errors.NoMemory refused };
+
+    fn from(refused: NoMemory) -> PrintError {
+        PrintError::NoMemory(refused)
+    }
+}
