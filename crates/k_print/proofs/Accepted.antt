@@ -1,10 +1,9 @@
 -- What a journal has done is a trace, and the report of the journal is accepted for it.
-use Rattle.std.proofs.Common.{◌≡◌, ◌∙◌, ◌≤◌, ◌<◌, sym, ap, length, map, arith}
+use Rattle.std.proofs.Common.{◌≡◌, ◌∙◌, ◌≤◌, sym, ap, length, map, arith}
 use Rattle.k_types.specs.State.{State}
 use Rattle.k_types.specs.Steps.{done_by, state_after}
 use Rattle.k_types.specs.Numbers.{numbers_below}
-use Rattle.k_types.specs.Trace.{Trace, process_count}
-use Rattle.k_types.specs.TraceRules.{AreLimits}
+use Rattle.k_types.specs.Trace.{process_count}
 use Rattle.k_bounds.proofs.Laws.{histories_are_short}
 use Rattle.k_trace.specs.Rules.{IsTrace}
 use Rattle.k_text.specs.Named.{AreNamed}

@@ -1,5 +1,5 @@
 -- What a legal history does of each process: nothing more once it has ended, and operations that are in range.
-use Rattle.std.proofs.Common.{◌≡◌, ◌∙◌, ℕ, ◌+◌, ◌<◌, ◌≤◌, ◌&&◌, Bool, true, false, cond, eqb, nat_lt, List, [], ◌∷◌, ◌++◌, length, refl, sym, ap, subst, arith, inl, inr, eq-eqb, ne_eqb, IsTrue, IsFalse}
+use Rattle.std.proofs.Common.{◌≡◌, ◌∙◌, ℕ, ◌+◌, ◌≤◌, ◌&&◌, Bool, true, false, cond, eqb, nat_lt, List, [], ◌∷◌, ◌++◌, length, refl, sym, ap, subst, arith, inl, inr, eq-eqb, ne_eqb, IsTrue}
 use Rattle.std.proofs.lemmas.Bool.{cases_eq, false≢true, lt-ltb, or_left, or_right}
 use Rattle.std.proofs.lemmas.List.Folds.{list_any-append}
 use Rattle.std.proofs.lemmas.List.Sums.{sum_by-cons}
@@ -16,7 +16,6 @@ use Rattle.k_types.specs.Names.{among}
 use Rattle.k_types.specs.Replies.{faults, first_fault}
 use Rattle.k_types.specs.State.{State}
 use Rattle.k_types.specs.Steps.{IsRun, done_by, in_range}
-use Rattle.k_types.specs.Totals.{total}
 use Rattle.k_types.specs.Trace.{Trace, process_count}
 use Rattle.k_types.specs.TraceRules.{EndsWithExit, is_exit, is_of_version, is_spelled}
 use Rattle.k_types.specs.Updates.{clear_registers, count_done, end_process, keep_shares, turn_exits}

@@ -1,5 +1,5 @@
 -- The trace of what a legal history has done keeps the rules, and the history is legal and complete for it.
-use Rattle.std.proofs.Common.{◌≡◌, ◌∙◌, ℕ, ◌<◌, ◌≤◌, true, false, List, [], ◌∷◌, ◌++◌, append-nil, length, map, refl, sym, ap, subst, IsTrue, IsFalse, arith}
+use Rattle.std.proofs.Common.{◌≡◌, ◌∙◌, ℕ, ◌<◌, ◌≤◌, List, [], append-nil, length, sym, ap, subst, IsTrue, IsFalse, arith}
 use Rattle.std.proofs.lemmas.Bool.{false≢true}
 use Rattle.std.proofs.lemmas.List.{length-map}
 use Rattle.std.specs.List.{list_all}
