@@ -1,5 +1,5 @@
 -- What the calls of a host leave of the room that is kept for the ends of its processes.
-use Rattle.std.proofs.Common.{◌≡◌, ◌⊎◌, ◌≤◌, ◌+◌, ℕ, refl, sym, ap, ap₂, ◌∙◌, Bool, true, false, List, [], ◌∷◌, ◌++◌, length, Some, slice_get, slice_set, IsFalse, IsTrue, inl, inr, arith, zero-le}
+use Rattle.std.proofs.Common.{◌≡◌, ◌⊎◌, ◌≤◌, ◌+◌, ℕ, refl, sym, ap, ap₂, ◌∙◌, subst, Bool, true, false, List, [], ◌∷◌, ◌++◌, length, Some, slice_get, slice_set, IsFalse, IsTrue, inl, inr, arith, zero-le}
 use Rattle.std.proofs.lemmas.Bool.{false≢true}
 use Rattle.std.proofs.lemmas.List.{length-append}
 use Rattle.std.specs.Prelude.{if◌then◌else◌}
@@ -16,9 +16,9 @@ use Rattle.k_host.specs.k_guests.declared.guest.Guest.{Guest}
 use Rattle.k_host.specs.k_guests.Serving.{Basis}
 use Rattle.k_host.specs.Doing.{IsKept as IsKeptInside, IsKeptAndPublished, IsRecorded, LeavesOthers}
 use Rattle.k_host.specs.Asked.{has_ended_of}
-use Rattle.k_host.specs.Calls.{HasAbsorbedIn, HasCollectedIn, HasCollectedKernelIn, HasExitedIn, HasKilledIn, HasOperatedAs, HasOperatedIn}
+use Rattle.k_host.specs.Calls.{HasAbsorbedIn, HasCollectedIn, HasCollectedKernelIn, HasExitedIn, HasKilledIn, HasOperatedAs, HasOperatedIn, HasPublishedIn}
 use Rattle.k_host.specs.Hosts.{HostServes, HostValue}
-use Rattle.k_keeper.specs.Keeping.{IsIdle, IsKept, owed_by}
+use Rattle.k_keeper.specs.Keeping.{IsFit, IsIdle, IsKept, owed_by}
 use Rattle.k_keeper.specs.Kept.{IsAlive}
 use Rattle.k_keeper.proofs.Insides.{idle_inside}
 use Rattle.k_keeper.proofs.Sums.{each_set, one_of, total_at}
@@ -63,6 +63,7 @@ module _ (h : HostValue) (left : ℕ) (kept : IsKept h left) where
       length n.book.journal.list + owed_by w + rest ≤ length h.book.journal.list + owed_by g + left → IsKept n rest
   kept_pair n pid g w rest at guests basis serves idle kernel spend = record {
     serves = serves;
+    fit = subst IsFit (sym basis) kept.fit;
     idle = λ k x there. each_set IsIdle h.guests pid w kept.idle idle k x (sym (ap (λ (gs : List Guest). slice_get gs k) guests) ∙ there);
     kernel_idle = kernel;
     room =
@@ -78,6 +79,7 @@ module _ (h : HostValue) (left : ℕ) (kept : IsKept h left) where
       length n.book.journal.list + rest ≤ length h.book.journal.list + left → IsKept n rest
   kept_rest n rest guests basis serves kernel spend = record {
     serves = serves;
+    fit = subst IsFit (sym basis) kept.fit;
     idle = λ k x there. kept.idle k x (sym (ap (λ (gs : List Guest). slice_get gs k) guests) ∙ there);
     kernel_idle = kernel;
     room =
@@ -135,6 +137,25 @@ module _ (h : HostValue) (left : ℕ) (kept : IsKept h left) where
       (let whole : length n.book.journal.list ≡ length h.book.journal.list + 1 = ap length c.has_absorbed.own.journal ∙ length-append h.book.journal.list (event ∷ []) in
       omega (arith, whole, all))
 
+  -- there is room for what a process has not published
+  pub publishing_room : (pid : ℕ) (g : Guest) → slice_get h.guests pid ≡ Some g → length h.book.journal.list + length g.cell.value.tail ≤ h.basis.rooms.events
+  publishing_room pid g at =
+      let one = one_of owed_by h.guests pid g at in
+      let least = owed_least g in
+      let room = kept.room in
+      omega (arith, one, least, room)
+
+  -- what is published was counted before
+  pub kept_published : (n : HostValue) (pid : Pid) → HostServes n → HasPublishedIn h n pid → IsKept n left
+  kept_published n pid serves c =
+      kept_pair n pid.0 c.before c.after left c.there (ap (λ (x : HostValue). x.guests) c.host_is) (ap (λ (x : HostValue). x.basis) c.host_is) serves
+      (λ lives. ap (λ (x : Guest). x.cell.value.collection) c.way.guest_is ∙ kept.idle pid.0 c.before c.there (sym (ap has_ended_of c.way.guest_is) ∙ lives))
+      (ap (λ (x : HostValue). x.kernel.value.collection) c.host_is ∙ kept.kernel_idle)
+      (let whole : length n.book.journal.list ≡ length h.book.journal.list + length c.before.cell.value.tail = ap length c.way.journal ∙ length-append h.book.journal.list c.before.cell.value.tail in
+      let owes : owed_by c.after ≡ (if has_ended_of c.before then 0 else 1) = ap owed_by c.way.guest_is in
+      let owed : owed_by c.before ≡ length c.before.cell.value.tail + (if has_ended_of c.before then 0 else 1) = refl in
+      omega (arith, whole, owes, owed))
+
   -- an operation adds one event, whether it is published or not
   others_idle : (cells : List Rattle.k_types.specs.Cells.Cell) (k : HoldingsValue) (ss ts : List SharedRecord) → LeavesOthers cells h.kernel k ss ts → k.value.collection ≡ Idle
   others_idle cells k ss ts (inl all) = ap (λ (x : HoldingsValue). x.value.collection) all.kernel_is ∙ kept.kernel_idle
@@ -178,6 +199,7 @@ module _ (h : HostValue) (left : ℕ) (kept : IsKept h left) where
   kept_killed : (n : HostValue) (pid : Pid) (op : Op) (event : Event) (rest : ℕ) → IsAlive h pid → HostServes n → HasKilledIn h n pid op event → left ≡ rest + 1 → IsKept n rest
   kept_killed n pid op event rest alive serves c all = record {
     serves = serves;
+    fit = subst IsFit (sym (ap (λ (y : HostValue). y.basis) c.host_is)) kept.fit;
     idle =
         λ k x there. each_set IsIdle (slice_set h.guests pid.0 c.after) c.target.0 c.target_after (each_set IsIdle h.guests pid.0 c.after kept.idle (λ lives. c.way.idle))
         (λ lives. absurd (false≢true (sym lives ∙ c.way.ended))) k x (sym (ap (λ (y : HostValue). slice_get y.guests k) c.host_is) ∙ there);

@@ -5,3 +5,4 @@ pub mod Refused
 pub mod Absorbed
 pub mod Counted
 pub mod Opened
+pub mod Published

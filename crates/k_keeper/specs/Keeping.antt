@@ -8,6 +8,8 @@ use Rattle.k_types.specs.Trace.{segment_count}
 use Rattle.k_host.specs.k_guests.Enough.{greater, lesser}
 use Rattle.k_host.specs.k_guests.Objects.{gone_by, made_by, objects_after}
 use Rattle.k_host.specs.k_guests.declared.guest.Guest.{Guest}
+use Rattle.k_host.specs.k_guests.Serving.{Basis}
+use Rattle.k_host.specs.k_trace.Rules.{IsTrace}
 use Rattle.k_host.specs.HostError.{HostError}
 use Rattle.k_host.specs.Asked.{has_ended_of}
 use Rattle.k_host.specs.Hosts.{HostServes, HostValue}
@@ -27,9 +29,16 @@ IsIdle g = IsFalse (has_ended_of g) → g.cell.value.collection ≡ Idle
 abbrev pub AreIdle : HostValue → Type 0
 AreIdle h = (k : ℕ) (g : Guest) → slice_get h.guests k ≡ Some g → IsIdle g
 
--- the host serves, no collection is open, and beside what the ends of its processes need the journal has room for so many events
+-- what is declared is a trace of the second version, with its names
+pub record IsFit (basis : Basis) : Type 0 where
+  pub is_trace : IsTrace (record { names = basis.names; trace = basis.trace })
+  pub second : basis.trace.version ≡ 2
+
+-- the host serves, what it declares has names, no collection is open, and beside what the ends of its processes need the journal has room
+-- for so many events
 pub record IsKept (h : HostValue) (left : ℕ) : Type 0 where
   pub serves : HostServes h
+  pub fit : IsFit h.basis
   pub idle : AreIdle h
   pub kernel_idle : h.kernel.value.collection ≡ Idle
   pub room : spent h + left ≤ h.basis.rooms.events

@@ -3,10 +3,12 @@ ghost use Rattle.std.specs.Prelude.{◌≡◌, ◌+◌, ◌≤◌, [], IfErr, If
 ghost use Rattle.k_host.specs.Whole.{AreFreedLast};
 ghost use Rattle.k_host.specs.Calls.{HasAbsorbedIn, HasCollectedIn, HasExitedIn, HasOperatedIn};
 ghost use Rattle.k_keeper.specs.Keeping.{IsKept, needed_by_the_kernel, needed_to_operate, objects_in};
+ghost use Rattle.k_keeper.specs.Publishing.{HasPublishedEach};
 ghost use Rattle.k_keeper.specs.Kept.{HasCollectedAll, HasOpened, HasTaken, HasTakenNone, IsGone, IsNotOpened, MayRefuseCollection, MayRefuseKernel, MayRefuseOperation, MayRefuseToAbsorb};
 
 use crate::absorbing::absorb_all;
 use crate::alive::{alive, ready, spared};
+use crate::publishing::publish_each;
 use crate::rooms::{
     fits, has_object_left, left_after, most_objects, needed_by_the_kernel, needed_to_absorb,
     needed_to_collect, needed_to_operate, objects_then,
@@ -218,6 +220,15 @@ impl Keeper {
         let came = self.host.exit(pid);
         self.host.serves();
         came
+    }
+
+    /// Publishes what each process did inside its heap, in the order of their numbers: the journal has all that was done then. It takes
+    /// nothing of what is left, and can't fail. Time goes with what is published, and with the number of processes.
+    pub fn publish(&mut self)
+        ensures published { HasPublishedEach self.old.host self.new.host }
+        ensures rest { self.new ≡ record self.old { host = self.new.host } }
+    {
+        publish_each(&mut self.host);
     }
 
     /// Absorbs the shared heap, an orphan of which no other has a lower number: it becomes the kernel's.
