@@ -26,7 +26,11 @@ use k_mark::Swept;
 use k_outcome::Process;
 use k_types::{Op, SharedId};
 use k_watch::show;
+use std::mem::drop;
 use std::sync::{Mutex, Wait};
+
+/// The most collections of a stretch.
+const COLLECTIONS: u32 = 4;
 
 /// Publishes what the process did inside its heap, and begins the heap's collection.
 fn begin<W: WorldName>(
@@ -89,7 +93,7 @@ impl<W: WorldName> LockedProcess<W> {
     }
 
     /// Goes on under one hold of the book: it does so many operations at most, and begins a collection of the heap if that comes next
-    /// then. It marks, sweeps and ends the collection, and says whether there was one.
+    /// then. It marks and sweeps without the book, and goes on in the same way under the hold that ends the collection.
     pub(crate) fn go_on(
         &mut self,
         rt: &impl Wait,
@@ -97,26 +101,21 @@ impl<W: WorldName> LockedProcess<W> {
         locks: &Locks<W>,
         most: u32,
         gate: &impl Gate,
-    ) -> bool {
-        {
-            let mut book = lock_book(rt, order, &locks.book);
+    ) {
+        let mut book = lock_book(rt, order, &locks.book);
+        for _ in 0..COLLECTIONS {
             follow(rt, locks, self, &mut book, most, gate);
             match self.next() {
                 Some(Op::Collect) => begin(rt, &mut self.process, &mut book, gate),
-                _ => return false,
+                _ => return,
             }
+            drop(book);
+            tell(&self.process, gate, GatePlace::Marking);
+            mark_collection(order, &mut self.process);
+            let freed = sweep_collection(order, &mut self.process);
+            book = lock_book(rt, order, &locks.book);
+            end(rt, &mut self.process, &mut book, freed, gate);
         }
-        tell(&self.process, gate, GatePlace::Marking);
-        mark_collection(order, &mut self.process);
-        let freed = sweep_collection(order, &mut self.process);
-        end(
-            rt,
-            &mut self.process,
-            &mut lock_book(rt, order, &locks.book),
-            freed,
-            gate,
-        );
-        true
     }
 
     /// Does `exit`.

@@ -19,9 +19,6 @@ use k_io::Gate;
 use k_types::{Op, Pid};
 use std::sync::{Mutex, Wait};
 
-/// The most stretches behind one operation.
-const STRETCHES: u32 = 4;
-
 /// How many operations the process has done; none where no other one comes next, or where another process stands behind the lock.
 pub(crate) fn done_behind<W: WorldName>(
     rt: &impl Wait,
@@ -190,8 +187,8 @@ fn kill_behind<W: WorldName>(
     }
 }
 
-/// Does more operations of the process whose lock is held: those inside its heap, and then, under one hold of the book, what follows up to
-/// and with a collection. The gate is not told before them.
+/// Does more operations of the process whose lock is held: those inside its heap, and then, under holds of the book, what follows, with
+/// collections between them. The gate is not told before them.
 fn stretch<W: WorldName>(
     rt: &impl Wait,
     order: &mut HoldsProcess<'_>,
@@ -200,10 +197,8 @@ fn stretch<W: WorldName>(
     most: u32,
     gate: &impl Gate,
 ) {
-    for _ in 0..STRETCHES {
-        if !go_inside(process, most) || !process.go_on(rt, order, locks, most, gate) {
-            return;
-        }
+    if go_inside(process, most) {
+        process.go_on(rt, order, locks, most, gate);
     }
 }
 
