@@ -9,7 +9,6 @@ ghost use Rattle.k_base.specs.k_types.Names.{name_of};
 use crate::chains::short;
 use k_base::{Field, Link, Name, NoMemory, Slot, TypeId, TypeTable, object_size};
 use std::alloc::Global;
-use std::marker::Model;
 
 /// A reference as a field keeps it, which leaves 32 bits for the hint of a slot. It stands for its name; no clause speaks of the hint.
 #[derive(Clone, Copy, Debug)]
@@ -51,18 +50,8 @@ pub enum Stored {
 }
 
 impl Stored {
-    /// A field as it is when its object is made.
-    fn fresh(kind: Field) -> Stored
-        ensures { content_of result ≡ fresh kind }
-    {
-        match kind {
-            Field::Ref => Stored::Null,
-            Field::Int => Stored::Holds(0),
-        }
-    }
-
     /// A reference as a field keeps it.
-    fn of_ref(value: Option<Link>) -> Stored
+    pub(crate) fn of_ref(value: Option<Link>) -> Stored
         ensures { content_of result ≡ Refers (option_map name_of value) }
     {
         match value {
@@ -72,148 +61,78 @@ impl Stored {
     }
 }
 
-/// The content of one object, of at most 16 fields.
-#[derive(Drop)]
+/// What is known of an object beside what its fields hold, of which it has at most 16.
+#[derive(Clone, Copy)]
 pub struct Body {
     ty: Option<TypeId>,
-    fields: Vec<Stored>,
-}
-
-impl Model for Body {
-    ghost use Rattle.std.specs.Prelude.{map, length, ◌≤◌};
-    ghost use Rattle.k_space.specs.Objects.{BodyValue, content_of};
-
-    ghost Value = { BodyValue };
-
-    ghost view = { λ b. record { ty = b.ty; fields = map content_of b.fields.items } };
-
-    ghost invariant = { λ b. length b.fields.items ≤ 16 };
+    // A bit for each field that is a reference.
+    refs: u16,
+    count: u16,
 }
 
 impl Body {
-    /// A new object of the type: references are null, integers are 0. `NoMemory` comes where its fields
-    /// find no memory.
+    /// A new object of the type: references are null, integers are 0. It takes no memory.
     pub fn make(alloc: Global, types: &TypeTable, ty: TypeId) -> Result<Body, NoMemory>
         requires { ty.0 < length types.now }
-        ensures { IfOk result (λ b. b ≡ new_body types.now ty) }
     {
+        let _ = alloc;
         let count = types.field_count(ty);
-        let mut fields = Vec::with_capacity(alloc, count as usize)?;
+        let mut refs = 0;
         for i in 0..count {
-            let Some(kind) = types.kind_of(ty, i) else {
-                unreachable!()
-            };
-            fields.push_reserved(Stored::fresh(kind));
+            match types.kind_of(ty, i) {
+                Some(Field::Ref) => refs |= 1 << i,
+                _ => {}
+            }
         }
         Ok(Body {
             ty: Some(ty),
-            fields,
+            refs,
+            count: count as u16,
         })
     }
 
-    /// The directory, with so many references, all null. `NoMemory` comes where they find no memory.
-    pub fn directory(alloc: Global, fields: u32) -> Result<Body, NoMemory>
-        requires { fields ≤ 16 }
-        ensures { IfOk result (λ b. b ≡ new_directory fields) }
-    {
-        let fields = vec![in alloc; Stored::Null; fields as usize]?;
-        Ok(Body { ty: None, fields })
+    /// The directory, with so many references, all null.
+    pub fn directory(alloc: Global, fields: u32) -> Result<Body, NoMemory> {
+        let _ = alloc;
+        Ok(Body {
+            ty: None,
+            refs: 0xffff,
+            count: fields as u16,
+        })
     }
 
     /// The object's type. The directory alone has none.
-    pub fn type_of(&self) -> Option<TypeId>
-        ensures { result ≡ self.now.ty }
-    {
+    pub fn type_of(&self) -> Option<TypeId> {
         self.ty
     }
 
     /// The size of the object in bytes: 16, and 8 for each field. Constant time.
-    pub fn bytes(&self) -> u64
-        ensures size { result ≡ object_size (length self.now.fields) }
-        ensures most { result ≤ 144 }
-    {
-        object_size(self.fields.len() as u32)
+    pub fn bytes(&self) -> u64 {
+        object_size(u32::from(self.count))
     }
 
     /// The number of fields.
-    pub(crate) fn len(&self) -> u32
-        ensures { result ≡ length self.now.fields }
-    {
-        self.fields.len() as u32
+    pub(crate) fn len(&self) -> u32 {
+        u32::from(self.count)
     }
 
-    /// The kind of a field; nothing past the last one.
-    pub(crate) fn kind_of(&self, field: u32) -> Option<Field>
-        ensures { result ≡ option_map field_kind (slice_get self.now.fields field) }
-    {
-        match self.fields.get(field as usize) {
-            Some(Stored::Null) => Some(Field::Ref),
-            Some(Stored::Refers(_)) => Some(Field::Ref),
-            Some(Stored::Holds(_)) => Some(Field::Int),
-            None => None,
+    /// The kind of a field, which never changes; nothing past the last one.
+    pub(crate) fn kind_of(&self, field: u32) -> Option<Field> {
+        if field >= u32::from(self.count) {
+            None
+        } else if (self.refs >> field) & 1 == 1 {
+            Some(Field::Ref)
+        } else {
+            Some(Field::Int)
         }
     }
 
-    /// What the field holds.
-    pub(crate) fn stored(&self, field: u32) -> Stored
-        requires { field < length self.now.fields }
-        ensures { slice_get self.now.fields field ≡ Some (content_of result) }
-    {
-        self.fields[field as usize]
-    }
-
-    /// Writes what the fields hold to the front of the list, and gives their number.
-    pub(crate) fn copy_to(&self, into: &mut [Stored]) -> u32
-        requires { 16 ≤ length into.old }
-        ensures count { result ≡ length self.now.fields }
-        ensures most { result ≤ 16 }
-        ensures copied { (i : ℕ) → i < result → slice_get self.now.fields i ≡ Some (content_of (slice_index_or into.new i NoTarget)) }
-        ensures len { length into.new ≡ length into.old }
-    {
-        let count = self.fields.len() as u32;
-        for i in 0..count {
-            into[i as usize] = self.stored(i);
+    /// What a field holds where the object is new.
+    pub(crate) fn fresh(&self, field: u32) -> Stored {
+        if (self.refs >> field) & 1 == 1 {
+            Stored::Null
+        } else {
+            Stored::Holds(0)
         }
-        count
-    }
-
-    /// What the reference field refers to; nothing where it is null.
-    pub(crate) fn read_ref(&self, field: u32) -> Option<Link>
-        requires { HasRef self.now.fields field }
-        ensures { slice_get self.now.fields field ≡ Some (Refers (option_map name_of result)) }
-    {
-        match self.fields[field as usize] {
-            Stored::Refers(target) => Some(target.link()),
-            Stored::Null => None,
-            Stored::Holds(_) => None,
-        }
-    }
-
-    /// The number in the integer field.
-    pub(crate) fn read_int(&self, field: u32) -> u64
-        requires { HasInt self.now.fields field }
-        ensures { slice_get self.now.fields field ≡ Some (Holds result) }
-    {
-        match self.fields[field as usize] {
-            Stored::Holds(number) => number,
-            Stored::Null => 0,
-            Stored::Refers(_) => 0,
-        }
-    }
-
-    /// Makes the field a reference, or null.
-    pub(crate) fn write_ref(&mut self, field: u32, value: Option<Link>)
-        requires { field < length self.old.fields }
-        ensures { self.new ≡ record self.old { fields = slice_set self.old.fields field (Refers (option_map name_of value)) } }
-    {
-        self.fields[field as usize] = Stored::of_ref(value);
-    }
-
-    /// Makes the field an integer.
-    pub(crate) fn write_int(&mut self, field: u32, value: u64)
-        requires { field < length self.old.fields }
-        ensures { self.new ≡ record self.old { fields = slice_set self.old.fields field (Holds value) } }
-    {
-        self.fields[field as usize] = Stored::Holds(value);
     }
 }

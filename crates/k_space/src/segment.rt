@@ -16,18 +16,10 @@ use crate::chains::short;
 use crate::live::{Entry, blacken, next_white};
 use crate::marks::{Mark, Place, Places};
 use k_base::{Field, Link, Name, NoMemory, Seg, Serial, Slot, TypeId};
-use slab::Slab;
-use std::alloc::{AllocError, Global};
-use std::marker::Model;
+use std::alloc::Global;
 
 // Slots and serials are numbers below this one.
 const END: usize = 4_294_967_295;
-
-#[derive(Drop)]
-struct Cell {
-    serial: Serial,
-    body: Body,
-}
 
 /// An object that was freed: where it lay, its serial, and its size in bytes.
 #[derive(Clone, Copy, Debug)]
@@ -50,7 +42,6 @@ pub struct Segment {
     number: Seg,
     room: u32,
     places: Places,
-    cells: Slab<Cell>,
     // The serial of the gray object that was made gray first, and a hint of where it lies; 0 where there is none.
     gray: u32,
     gray_slot: usize,
@@ -71,7 +62,6 @@ impl Drop for Segment {
             number: _,
             room: _,
             places: _,
-            cells: _,
             gray: _,
             gray_slot: _,
             last: _,
@@ -83,58 +73,16 @@ impl Drop for Segment {
     }
 }
 
-impl Model for Segment {
-    ghost use Rattle.k_space.specs.Segments.{SegmentValue};
-
-    ghost Value = { SegmentValue };
-
-    ghost use Rattle.std.specs.Prelude.{map, vec_capacity, ◌≡◌};
-    ghost use Rattle.k_space.specs.Places.{row_of, IsSound, IsLastGray, AreBytes};
-    ghost use Rattle.k_space.specs.Listed.{IsListed, serials};
-
-    ghost view = { λ s. record { number = s.number.0; room = s.room; rows = map (row_of s.cells) s.places.items } };
-
-    ghost invariant = { λ s. record {
-      sound : IsSound s.places.items s.cells s.room s.places.capacity s.gray;
-      last : IsLastGray s.places.items s.last;
-      bytes : AreBytes s.places.items s.cells s.bytes;
-      listed : IsListed s.places.items (serials s.live.items) s.passed;
-      reserved : vec_capacity s.live ≡ s.room;
-    } };
-}
-
-/// Writes what the fields of the object hold to the front of the list, unless it is skipped.
-fn copy_unless(cells: &Slab<Cell>, slot: usize, skip: bool, into: &mut [Stored]) -> u32
-    requires live { IsSome (get cells.now slot) }
-    requires few { (cell : SlabCell) → get cells.now slot ≡ Some cell → length cell.body.fields ≤ 16 }
-    requires list { 16 ≤ length into.old }
-    ensures most { result ≤ 16 }
-    ensures held { IsFalse skip → (cell : SlabCell) → get cells.now slot ≡ Some cell → AreHeld cell.body.fields result into.new }
-    ensures len { length into.new ≡ length into.old }
-{
-    if skip {
-        return 0;
-    }
-    cells[slot].body.copy_to(into)
-}
-
 impl Segment {
     /// A segment with no object, in which `room` of them can live at once. It takes the memory for all of
     /// them; `NoMemory` comes where there is none, and where slots would not be numbers of 32 bits.
     pub fn make(alloc: Global, seg: Seg, room: u32) -> Result<Segment, NoMemory>
         ensures { IfOk result (λ s. s ≡ record { number = seg.0; room = room; rows = None ∷ [] }) }
     {
-        let cells = Slab::with_capacity(alloc, room as usize)?;
-        let slots = cells.capacity();
-        // No such memory is given.
-        if slots >= END {
-            return Err(NoMemory::from(AllocError));
-        }
         Ok(Segment {
             number: seg,
             room,
-            places: Places::make(alloc, slots, room)?,
-            cells,
+            places: Places::make(alloc, room)?,
             gray: 0,
             gray_slot: 0,
             last: 0,
@@ -167,14 +115,14 @@ impl Segment {
         ensures value { result ≡ living self.now }
         ensures sound { IsSegment self.now }
     {
-        self.cells.len() as u32
+        self.live.len() as u32
     }
 
     /// Whether one more object can be put in. Constant time.
     pub fn has_room(&self) -> bool
         ensures { IsTrue result ↔ HasRoom self.now }
     {
-        self.cells.len() < self.room as usize && self.places.len() < END
+        self.live.len() < self.room as usize && self.places.len() < END
     }
 
     /// The bytes of the live objects. They are kept, and not added up here: constant time.
@@ -196,11 +144,7 @@ impl Segment {
     {
         let serial = self.places.len() as u32;
         self.bytes += body.bytes();
-        let slot = self.cells.insert_reserved(Cell {
-            serial: Serial(serial),
-            body,
-        });
-        self.places.put(slot);
+        let slot = self.places.put(body);
         let entry = Entry {
             serial,
             slot: slot as u32,
@@ -231,10 +175,8 @@ impl Segment {
     pub fn find_near(&self, serial: Serial, hint: Slot) -> Option<Slot>
         ensures { option_map (λ s. s.0) result ≡ option_map (λ row. row.slot) (row_at self.now serial.0) }
     {
-        if let Some(cell) = self.cells.get(hint.0) {
-            if cell.serial.0 == serial.0 {
-                return Some(hint);
-            }
+        if self.places.has(hint.0, serial.0) {
+            return Some(hint);
         }
         self.find(serial)
     }
@@ -244,7 +186,7 @@ impl Segment {
         requires { IsLive self.now slot.0 }
         ensures { (serial : ℕ) (row : Row) → LiesAt self.now slot.0 serial row → result.0 ≡ serial }
     {
-        self.cells[slot.0].serial
+        Serial(self.places.serial_in(slot.0))
     }
 
     /// The size of the object there, in bytes. Constant time.
@@ -285,7 +227,7 @@ impl Segment {
         requires field { (serial : ℕ) (row : Row) → LiesAt self.now slot.0 serial row → field < length row.fields }
         ensures { (serial : ℕ) (row : Row) → LiesAt self.now slot.0 serial row → slice_get row.fields field ≡ Some (content_of result) }
     {
-        self.body_at(slot).stored(field)
+        self.places.stored(slot.0, field)
     }
 
     /// What a reference field of the object there refers to, by its name; nothing where it is null. Constant time.
@@ -294,7 +236,11 @@ impl Segment {
         requires kind { (serial : ℕ) (row : Row) → LiesAt self.now slot.0 serial row → HasRef row.fields field }
         ensures { (serial : ℕ) (row : Row) → LiesAt self.now slot.0 serial row → slice_get row.fields field ≡ Some (Refers (option_map name_of result)) }
     {
-        self.body_at(slot).read_ref(field)
+        match self.stored(slot, field) {
+            Stored::Refers(target) => Some(target.link()),
+            Stored::Null => None,
+            Stored::Holds(_) => None,
+        }
     }
 
     /// The number in an integer field of the object there. Constant time.
@@ -303,7 +249,11 @@ impl Segment {
         requires kind { (serial : ℕ) (row : Row) → LiesAt self.now slot.0 serial row → HasInt row.fields field }
         ensures { (serial : ℕ) (row : Row) → LiesAt self.now slot.0 serial row → slice_get row.fields field ≡ Some (Holds result) }
     {
-        self.body_at(slot).read_int(field)
+        match self.stored(slot, field) {
+            Stored::Holds(number) => number,
+            Stored::Null => 0,
+            Stored::Refers(_) => 0,
+        }
     }
 
     /// Writes a reference, or null, into a reference field of the object there. It asks no write
@@ -314,7 +264,7 @@ impl Segment {
         ensures { (serial : ℕ) (row : Row) → LiesAt self.old slot.0 serial row →
             self.new ≡ with_row self.old serial (Some (record row { fields = slice_set row.fields field (Refers (option_map name_of value)) })) }
     {
-        self.cells[slot.0].body.write_ref(field, value);
+        self.places.set(slot.0, field, Stored::of_ref(value));
     }
 
     /// Writes a number into an integer field of the object there. Constant time, and no memory.
@@ -324,7 +274,7 @@ impl Segment {
         ensures { (serial : ℕ) (row : Row) → LiesAt self.old slot.0 serial row →
             self.new ≡ with_row self.old serial (Some (record row { fields = slice_set row.fields field (Holds value) })) }
     {
-        self.cells[slot.0].body.write_int(field, value);
+        self.places.set(slot.0, field, Stored::Holds(value));
     }
 
     /// Makes a white object gray. Other objects, and serials with no object, stay as they are. The slot is a hint
@@ -398,7 +348,11 @@ impl Segment {
                         seg: self.number,
                         serial: Serial(serial),
                     };
-                    let fields = copy_unless(&self.cells, slot, bound.covers(name), into);
+                    let fields = if bound.covers(name) {
+                        0
+                    } else {
+                        self.places.copy_to(slot, into)
+                    };
                     self.gray_slot = self.places.near(slot);
                     self.places.mark_in(slot, Mark::Black, 0);
                     self.gray = next;
@@ -454,13 +408,12 @@ impl Segment {
             Some(white) => {
                 self.passed = white.at;
                 let entry = self.live.swap_remove(white.at);
+                let bytes = self.places.body_in(white.slot).bytes();
                 self.places.take(entry.serial as usize);
-                let cell = self.cells.remove(white.slot);
-                let bytes = cell.body.bytes();
                 self.bytes -= bytes;
                 Some(Gone {
                     slot: Slot(white.slot),
-                    serial: cell.serial,
+                    serial: Serial(entry.serial),
                     bytes,
                 })
             }
@@ -473,6 +426,6 @@ impl Segment {
         requires { IsLive self.now slot.0 }
         ensures { (serial : ℕ) (row : Row) → LiesAt self.now slot.0 serial row → result.now ≡ body_of row }
     {
-        &self.cells[slot.0].body
+        self.places.body_in(slot.0)
     }
 }
