@@ -2,8 +2,6 @@
 ghost use Rattle.std.specs.Prelude.{◌≡◌, ◌≢◌, ◌<◌, ◌+◌, ◌-◌, ◌^◌, ℕ, length, vec_capacity};
 ghost use Rattle.k_space.specs.Chains.{AreLinked, IsInserted, IsReached, IsRemoved, IsSought, before_at, chain_by, head_at, serial_at, spot_at, with_before};
 
-use crate::body::Body;
-
 /// A slot with its object, which is found by its serial.
 #[derive(Clone, Copy)]
 pub(crate) struct Spot {
@@ -17,7 +15,6 @@ pub(crate) struct Spot {
     pub(crate) next: u32,
     // A hint of the slot in which that one lies.
     pub(crate) near: u32,
-    pub(crate) body: Body,
 }
 
 /// Where a walk along a chain has ended. Both numbers are one more than a slot, and 0 where there is none.
@@ -57,7 +54,7 @@ pub(crate) fn reach(spots: &[Spot], heads: &[u32], serial: usize) -> Reached
     let mut newer = 0;
     let mut next = heads[chain_of(heads.len(), serial)];
     while next != 0 {
-        let spot = &spots[next as usize - 1];
+        let spot = spots[next as usize - 1];
         let found = spot.serial as usize;
         if found == serial {
             return Reached { newer, at: next };
@@ -71,14 +68,26 @@ pub(crate) fn reach(spots: &[Spot], heads: &[u32], serial: usize) -> Reached
     Reached { newer: 0, at: 0 }
 }
 
+/// Adds free spots up to that slot.
+fn grow(spots: &mut Vec<Spot>, slot: usize)
+    requires { slot < vec_capacity spots.old }
+    ensures within { slot < length spots.new.items }
+    ensures same { (other : ℕ) → spot_at spots.new.items other ≡ spot_at spots.old.items other }
+    ensures capacity { vec_capacity spots.new ≡ vec_capacity spots.old }
+{
+    while spots.len() <= slot {
+        spots.push_reserved(Spot {
+            serial: 0,
+            before: 0,
+            stamp: 0,
+            next: 0,
+            near: 0,
+        });
+    }
+}
+
 /// Puts an object into that slot, under a serial that is greater than all others.
-pub(crate) fn insert(
-    spots: &mut Vec<Spot>,
-    heads: &mut Vec<u32>,
-    slot: usize,
-    serial: u32,
-    body: Body,
-)
+pub(crate) fn insert(spots: &mut Vec<Spot>, heads: &mut Vec<u32>, slot: usize, serial: u32)
     requires linked { AreLinked spots.old.items heads.old.items serial }
     requires free { serial_at spots.old.items slot ≡ 0 }
     requires within { slot < vec_capacity spots.old }
@@ -87,21 +96,16 @@ pub(crate) fn insert(
     ensures inserted { IsInserted spots.old.items spots.new.items slot serial }
     ensures capacity { vec_capacity spots.new ≡ vec_capacity spots.old }
 {
+    grow(spots, slot);
     let chain = chain_of(heads.len(), serial as usize);
     let before = heads[chain];
-    let spot = Spot {
+    spots[slot] = Spot {
         serial,
         before,
         stamp: 0,
         next: 0,
         near: 0,
-        body,
     };
-    if slot < spots.len() {
-        spots[slot] = spot;
-    } else {
-        spots.push_reserved(spot);
-    }
     heads[chain] = slot as u32 + 1;
 }
 
@@ -115,7 +119,7 @@ fn set_before(spots: &mut Vec<Spot>, slot: usize, before: u32)
 }
 
 /// Frees the slot of that serial, if there is one.
-pub(crate) fn remove(spots: &mut Vec<Spot>, heads: &mut Vec<u32>, serial: usize) -> u32
+pub(crate) fn remove(spots: &mut Vec<Spot>, heads: &mut Vec<u32>, serial: usize)
     requires { IsSought spots.old.items heads.old.items serial }
     ensures linked { (made : ℕ) → AreLinked spots.old.items heads.old.items made → AreLinked spots.new.items heads.new.items made }
     ensures removed { IsRemoved spots.old.items spots.new.items serial }
@@ -125,7 +129,13 @@ pub(crate) fn remove(spots: &mut Vec<Spot>, heads: &mut Vec<u32>, serial: usize)
     if reached.at != 0 {
         let slot = reached.at as usize - 1;
         let before = spots[slot].before;
-        spots[slot].serial = 0;
+        spots[slot] = Spot {
+            serial: 0,
+            before: 0,
+            stamp: 0,
+            next: 0,
+            near: 0,
+        };
         if reached.newer == 0 {
             let chain = chain_of(heads.len(), serial);
             heads[chain] = before;
@@ -133,5 +143,4 @@ pub(crate) fn remove(spots: &mut Vec<Spot>, heads: &mut Vec<u32>, serial: usize)
             set_before(spots, reached.newer as usize - 1, before);
         }
     }
-    reached.at
 }

@@ -18,6 +18,7 @@ mod area;
 mod body;
 mod bound;
 mod chains;
+mod fields;
 mod live;
 mod marks;
 mod segment;

@@ -13,13 +13,21 @@ ghost use Rattle.k_space.specs.declared.segment.Cell.{Cell as SlabCell};
 use crate::body::{Body, Stored};
 use crate::bound::Bound;
 use crate::chains::short;
+use crate::fields::Fields;
 use crate::live::{Entry, blacken, next_white};
 use crate::marks::{Mark, Place, Places};
 use k_base::{Field, Link, Name, NoMemory, Seg, Serial, Slot, TypeId};
-use std::alloc::Global;
+use slab::Slab;
+use std::alloc::{AllocError, Global};
 
 // Slots and serials are numbers below this one.
 const END: usize = 4_294_967_295;
+
+#[derive(Drop)]
+struct Cell {
+    serial: Serial,
+    body: Body,
+}
 
 /// An object that was freed: where it lay, its serial, and its size in bytes.
 #[derive(Clone, Copy, Debug)]
@@ -42,6 +50,8 @@ pub struct Segment {
     number: Seg,
     room: u32,
     places: Places,
+    cells: Slab<Cell>,
+    fields: Fields,
     // The serial of the gray object that was made gray first, and a hint of where it lies; 0 where there is none.
     gray: u32,
     gray_slot: usize,
@@ -62,6 +72,8 @@ impl Drop for Segment {
             number: _,
             room: _,
             places: _,
+            cells: _,
+            fields: _,
             gray: _,
             gray_slot: _,
             last: _,
@@ -79,10 +91,18 @@ impl Segment {
     pub fn make(alloc: Global, seg: Seg, room: u32) -> Result<Segment, NoMemory>
         ensures { IfOk result (λ s. s ≡ record { number = seg.0; room = room; rows = None ∷ [] }) }
     {
+        let cells = Slab::with_capacity(alloc, room as usize)?;
+        let slots = cells.capacity();
+        // No such memory is given.
+        if slots >= END {
+            return Err(NoMemory::from(AllocError));
+        }
         Ok(Segment {
             number: seg,
             room,
-            places: Places::make(alloc, room)?,
+            places: Places::make(alloc, slots, room)?,
+            cells,
+            fields: Fields::make(alloc, slots)?,
             gray: 0,
             gray_slot: 0,
             last: 0,
@@ -115,14 +135,14 @@ impl Segment {
         ensures value { result ≡ living self.now }
         ensures sound { IsSegment self.now }
     {
-        self.live.len() as u32
+        self.cells.len() as u32
     }
 
     /// Whether one more object can be put in. Constant time.
     pub fn has_room(&self) -> bool
         ensures { IsTrue result ↔ HasRoom self.now }
     {
-        self.live.len() < self.room as usize && self.places.len() < END
+        self.cells.len() < self.room as usize && self.places.len() < END
     }
 
     /// The bytes of the live objects. They are kept, and not added up here: constant time.
@@ -144,7 +164,12 @@ impl Segment {
     {
         let serial = self.places.len() as u32;
         self.bytes += body.bytes();
-        let slot = self.places.put(body);
+        let slot = self.cells.insert_reserved(Cell {
+            serial: Serial(serial),
+            body,
+        });
+        self.places.put(slot);
+        self.fields.put(slot, body);
         let entry = Entry {
             serial,
             slot: slot as u32,
@@ -175,8 +200,10 @@ impl Segment {
     pub fn find_near(&self, serial: Serial, hint: Slot) -> Option<Slot>
         ensures { option_map (λ s. s.0) result ≡ option_map (λ row. row.slot) (row_at self.now serial.0) }
     {
-        if self.places.has(hint.0, serial.0) {
-            return Some(hint);
+        if let Some(cell) = self.cells.get(hint.0) {
+            if cell.serial.0 == serial.0 {
+                return Some(hint);
+            }
         }
         self.find(serial)
     }
@@ -186,7 +213,7 @@ impl Segment {
         requires { IsLive self.now slot.0 }
         ensures { (serial : ℕ) (row : Row) → LiesAt self.now slot.0 serial row → result.0 ≡ serial }
     {
-        Serial(self.places.serial_in(slot.0))
+        self.cells[slot.0].serial
     }
 
     /// The size of the object there, in bytes. Constant time.
@@ -227,7 +254,7 @@ impl Segment {
         requires field { (serial : ℕ) (row : Row) → LiesAt self.now slot.0 serial row → field < length row.fields }
         ensures { (serial : ℕ) (row : Row) → LiesAt self.now slot.0 serial row → slice_get row.fields field ≡ Some (content_of result) }
     {
-        self.places.stored(slot.0, field)
+        self.fields.stored(slot.0, field)
     }
 
     /// What a reference field of the object there refers to, by its name; nothing where it is null. Constant time.
@@ -236,7 +263,7 @@ impl Segment {
         requires kind { (serial : ℕ) (row : Row) → LiesAt self.now slot.0 serial row → HasRef row.fields field }
         ensures { (serial : ℕ) (row : Row) → LiesAt self.now slot.0 serial row → slice_get row.fields field ≡ Some (Refers (option_map name_of result)) }
     {
-        match self.stored(slot, field) {
+        match self.fields.stored(slot.0, field) {
             Stored::Refers(target) => Some(target.link()),
             Stored::Null => None,
             Stored::Holds(_) => None,
@@ -249,7 +276,7 @@ impl Segment {
         requires kind { (serial : ℕ) (row : Row) → LiesAt self.now slot.0 serial row → HasInt row.fields field }
         ensures { (serial : ℕ) (row : Row) → LiesAt self.now slot.0 serial row → slice_get row.fields field ≡ Some (Holds result) }
     {
-        match self.stored(slot, field) {
+        match self.fields.stored(slot.0, field) {
             Stored::Holds(number) => number,
             Stored::Null => 0,
             Stored::Refers(_) => 0,
@@ -264,7 +291,7 @@ impl Segment {
         ensures { (serial : ℕ) (row : Row) → LiesAt self.old slot.0 serial row →
             self.new ≡ with_row self.old serial (Some (record row { fields = slice_set row.fields field (Refers (option_map name_of value)) })) }
     {
-        self.places.set(slot.0, field, Stored::of_ref(value));
+        self.fields.set(slot.0, field, Stored::of_ref(value));
     }
 
     /// Writes a number into an integer field of the object there. Constant time, and no memory.
@@ -274,7 +301,7 @@ impl Segment {
         ensures { (serial : ℕ) (row : Row) → LiesAt self.old slot.0 serial row →
             self.new ≡ with_row self.old serial (Some (record row { fields = slice_set row.fields field (Holds value) })) }
     {
-        self.places.set(slot.0, field, Stored::Holds(value));
+        self.fields.set(slot.0, field, Stored::Holds(value));
     }
 
     /// Makes a white object gray. Other objects, and serials with no object, stay as they are. The slot is a hint
@@ -351,7 +378,9 @@ impl Segment {
                     let fields = if bound.covers(name) {
                         0
                     } else {
-                        self.places.copy_to(slot, into)
+                        let count = self.cells[slot].body.len();
+                        self.fields.copy_to(slot, count, into);
+                        count
                     };
                     self.gray_slot = self.places.near(slot);
                     self.places.mark_in(slot, Mark::Black, 0);
@@ -408,12 +437,13 @@ impl Segment {
             Some(white) => {
                 self.passed = white.at;
                 let entry = self.live.swap_remove(white.at);
-                let bytes = self.places.body_in(white.slot).bytes();
                 self.places.take(entry.serial as usize);
+                let cell = self.cells.remove(white.slot);
+                let bytes = cell.body.bytes();
                 self.bytes -= bytes;
                 Some(Gone {
                     slot: Slot(white.slot),
-                    serial: Serial(entry.serial),
+                    serial: cell.serial,
                     bytes,
                 })
             }
@@ -426,6 +456,6 @@ impl Segment {
         requires { IsLive self.now slot.0 }
         ensures { (serial : ℕ) (row : Row) → LiesAt self.now slot.0 serial row → result.now ≡ body_of row }
     {
-        self.places.body_in(slot.0)
+        &self.cells[slot.0].body
     }
 }
