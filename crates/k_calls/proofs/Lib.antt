@@ -5,6 +5,7 @@ pub mod Reserved
 pub mod Due
 pub mod Inside
 pub mod Staying
+pub mod Lent
 pub mod Operated
 pub mod Refused
 pub use Rattle.k_operate.proofs.AbsorbKept

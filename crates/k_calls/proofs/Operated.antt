@@ -1,185 +1,175 @@
 -- An operation with whatever it touches.
-use Rattle.std.proofs.lemmas.List.{length-append}
-use Rattle.std.proofs.Common.{◌≡◌, ◌+◌, ◌<◌, refl, sym, ap, ◌∙◌, subst, List, [], ◌∷◌, length, set, Some, slice_get, IsFalse, IsTrue, inl, inr, arith}
+use Rattle.std.proofs.Common.{◌≡◌, ◌<◌, refl, sym, ap, ◌∙◌, subst, List, [], ◌∷◌, length, get_or, set, Some, slice_get, Result, Ok, Err, inl, inr, arith}
+use Rattle.std.specs.Prelude.{IfErr, IfOk}
+use Rattle.std.proofs.lemmas.List.{set-get_or}
 use Rattle.k_types.specs.declared.event.Event.{Event}
-use Rattle.k_types.specs.declared.event.Event.TheVariants.{Done}
-use Rattle.k_types.specs.declared.event.Reply.{Reply}
 use Rattle.k_types.specs.declared.names.Heap.TheVariants.{Kernel, Shared}
-use Rattle.k_types.specs.declared.names.Pid.{Pid}
 use Rattle.k_types.specs.declared.names.SharedId.{SharedId}
 use Rattle.k_types.specs.declared.op.Op.{Op}
-use Rattle.k_types.specs.declared.op.Op.TheVariants.{New, Store}
-use Rattle.k_types.specs.Agree.{book_shown_by}
 use Rattle.k_types.specs.Cells.{Cell}
-use Rattle.k_squares.specs.Locals.{is_local_in}
-use Rattle.k_squares.specs.Touches.{other_cells_in}
 use Rattle.k_moves.specs.Shown.{idle_part}
 use Rattle.k_book.specs.Books.{BookRecord}
 use Rattle.k_cell.specs.Holdings.{HoldingsValue}
 use Rattle.k_shared.specs.SharedHeaps.{SharedRecord}
-use Rattle.k_operate.specs.Reaching.{CanReach}
 use Rattle.k_operate.proofs.HeapsReached.{heap_reached}
+use Rattle.k_operate.specs.Reach.{Reach}
+use Rattle.k_operate.specs.Reach.TheVariants.{Shared as SharedReach}
+use Rattle.k_operate.specs.Reaching.{cells_of}
 use Rattle.k_guests.specs.declared.guest.Guest.{Guest}
-use Rattle.k_calls.specs.Adding.{HasOwnRoom, HasSharedRoom}
-use Rattle.k_calls.specs.Doing.{CanDoInside, CanDoWithKernel, CanDoWithShared, CanOperate, HasDoneAlone, HasDoneInside, HasDoneWithKernel, HasDoneWithShared, HasEventsLeft, HasOperated, HasRoomToPublish, IsDueWith, IsKernelReady, IsPublishedWhereFull, IsReady, LeavesOthers, bodies_for, left_after, provided_for, touched_by}
-use Rattle.k_guests.specs.Serving.{Basis, GuestServes, GuestServesWith, HasTailRoom, HeapsServe, KernelServes, supply_of}
+use Rattle.k_guests.specs.Serving.{Basis, HasTailRoom, HeapsServe, KernelServes, SharedServes}
 use Rattle.k_calls.specs.declared.errors.HostError.{HostError}
-use Rattle.k_calls.specs.Refusals.{IsOwnBarred, LacksRoom}
+use Rattle.k_calls.specs.Apart.{CanNotDoAlone, CanNotDoWithKernel, CanNotDoWithShared, CanNotTry, IsDoneInside, IsLeft, IsRecordedWith, IsRecordedWithKernel, IsRecordedWithShared}
+use Rattle.k_calls.specs.Doing.{CanOperate, HasDoneInside, HasOperated, IsDue, LeavesOthers, touched_by}
+use Rattle.k_calls.specs.Refusals.{CanNotOperateAlone}
+use Rattle.k_calls.proofs.Lent.{as_before, due_now}
 use Rattle.k_calls.proofs.Staying.{heaps_set, heaps_stay, kernel_stays}
 
--- what an operation touches, where trying it inside has changed nothing
-pub touched_before : (basis : Basis) (g h : Guest) (b : BookRecord) (op : Op) → h ≡ g → (cells : List Cell) → other_cells_in basis.trace (book_shown_by b.value) (idle_part h.cell.value) h.cell.pid.0 op ≡ cells →
-    other_cells_in basis.trace (book_shown_by b.value) (idle_part g.cell.value) g.cell.pid.0 op ≡ cells
-touched_before basis g h b op same cells touches = ap (λ (x : Guest). other_cells_in basis.trace (book_shown_by b.value) (idle_part x.cell.value) x.cell.pid.0 op) (sym same) ∙ touches
+module _ (basis : Basis) (g : Guest) (k : HoldingsValue) (ss : List SharedRecord) (b : BookRecord) (op : Op) (can : CanOperate basis g k ss b) where
+  -- a refusal of an operation whose cells are lent one by one is one of an operation that is lent all
+  pub try_barred : (why : HostError) → CanNotTry basis b op g why → CanNotOperateAlone basis k ss b op g why
+  try_barred why (inl ready) = inl (inl ready)
+  try_barred why (inr room) = inl (inr (inl room))
 
--- the process's heap has no room for what the operation adds, where trying it inside has changed nothing
-pub own_barred : (basis : Basis) (g h : Guest) (b : BookRecord) (op : Op) → h ≡ g → touched_by basis h b op ≡ [] → (why : HostError) → LacksRoom op (HasOwnRoom basis h b op) why → IsOwnBarred basis g b op why
-own_barred basis g h b op same touches why lacks = subst (λ (x : Guest). IsOwnBarred basis x b op why) same (record { touches = touches; barred = lacks })
+  pub alone_barred : (why : HostError) → CanNotDoAlone basis b op g why → CanNotOperateAlone basis k ss b op g why
+  alone_barred why (inl none) = try_barred why none
+  alone_barred why (inr own) = inl (inr (inr (inl own)))
 
--- the body that is provided takes no room from the tables
-provided_left : (basis : Basis) (g : Guest) (b : BookRecord) (op : Op) → HasOwnRoom basis g b op → HasOwnRoom basis (provided_for basis op g) b op
-provided_left basis g b (New r ty) left = left
-provided_left basis g b (Store base i value) left = left
-provided_left basis g b _ left = tt
+  pub kernel_barred : (why : HostError) → CanNotDoWithKernel basis k b op g why → CanNotOperateAlone basis k ss b op g why
+  kernel_barred why (inl none) = try_barred why none
+  kernel_barred why (inr kernel) = inl (inr (inr (inr (inl kernel))))
 
-module _ (basis : Basis) (g : Guest) (k : HoldingsValue) (ss : List SharedRecord) (b : BookRecord) (op : Op) (can : CanOperate basis g k ss b) (ready : IsReady basis g op) (room : HasEventsLeft basis g b) (few : HasTailRoom basis g) where
-  pub can_inside : CanDoInside basis g op
-  can_inside = record {
-    serves = subst (λ t. GuestServes basis t g) (sym can.guest.table) can.guest;
-    in_range = ready.in_range;
-    awake = ready.awake;
-    room = ready.room;
-    tail = few;
+  pub inside_operated : (e : Guest) (l : BookRecord) (event : Event) → IsDoneInside basis op g e b l event → HasOperated basis op g e k k ss ss b l event
+  inside_operated e l event d = record {
+    can = record {
+      guest = d.keeps.guest;
+      rest = record {
+        kernel = kernel_stays basis b.journal.table l.journal.table d.keeps.same_table k can.rest.kernel;
+        heaps = heaps_stay basis b.journal.table l.journal.table d.keeps.same_table ss can.rest.heaps;
+        book = d.keeps.book;
+      };
+    };
+    same_table = d.keeps.same_table;
+    pid = d.keeps.pid;
+    said = d.said;
+    event_is = d.event_is;
+    done = elim d.published [
+      | inl stays ↦ inl (record {
+        own = d.own;
+        inside = subst (λ (x : Guest). HasDoneInside basis op g x d.said) (sym stays.1) d.inside;
+        few = subst (HasTailRoom basis) (sym stays.1) stays.0;
+        kernel_is = refl;
+        shared_is = refl;
+        book_is = stays.2;
+      })
+      | inr full ↦ inr (inl (record { own = d.own; mid = d.mid; inside = d.inside; full = full.0; published = full.1; kernel_is = refl; shared_is = refl }))
+    ];
   }
 
-  -- an operation that is done inside, where what is unpublished then is published if it is full
-  module _ (h : Guest) (said : Reply) (own : IsTrue (is_local_in (idle_part g.cell.value) g.cell.pid.0 op)) (d : HasDoneInside basis op g h said) where
-    same_process : h.cell.pid ≡ g.cell.pid
-    same_process = ap (λ (x : Guest). x.cell.pid) d.guest_is
+  operated : (cells : List Cell) (e : Guest) (x : HoldingsValue) (ts : List SharedRecord) (l : BookRecord) (event : Event) → KernelServes basis l.journal.table x → HeapsServe basis l.journal.table ts →
+      IsRecordedWith basis op cells g e b l event → LeavesOthers (touched_by basis g b op) k x ss ts → HasOperated basis op g e k x ss ts b l event
+  operated cells e x ts l event kernel heaps d others = record {
+    can = record { guest = d.alone.guest; rest = record { kernel = kernel; heaps = heaps; book = d.alone.book } };
+    same_table = d.alone.same_table;
+    pid = d.alone.pid;
+    said = d.alone.said;
+    event_is = d.alone.event_is;
+    done = inr (inr (record {
+      outside = d.outside;
+      appended = record { journal = d.alone.appended.journal; possible = d.alone.appended.possible };
+      settled = d.alone.settled;
+      idle = d.alone.idle;
+      bodies = d.alone.bodies;
+      others = others;
+    }));
+  }
 
-    pub serves_inside : GuestServes basis b.journal.table h
-    serves_inside = subst (λ t. GuestServes basis t h) can.guest.table d.serves
+  pub alone_operated : (e : Guest) (l : BookRecord) (event : Event) → IsRecordedWith basis op [] g e b l event → HasOperated basis op g e k k ss ss b l event
+  alone_operated e l event d =
+      operated [] e k ss l event (kernel_stays basis b.journal.table l.journal.table d.alone.same_table k can.rest.kernel) (heaps_stay basis b.journal.table l.journal.table d.alone.same_table ss can.rest.heaps) d
+      (inl (record { touches = d.touches; kernel_is = refl; shared_is = refl }))
 
-    pub room_inside : HasRoomToPublish basis h b
-    room_inside =
-        let longer : length h.cell.value.tail ≡ length g.cell.value.tail + 1 =
-        ap (λ (x : Guest). length x.cell.value.tail) d.guest_is ∙ length-append g.cell.value.tail (Done g.cell.pid op said ∷ []) in
-        omega (arith, room, longer)
+  pub kernel_operated : (e : Guest) (x : HoldingsValue) (l : BookRecord) (event : Event) → IsRecordedWithKernel basis op g e x b l event → HasOperated basis op g e k x ss ss b l event
+  kernel_operated e x l event d =
+      operated (Kernel ∷ []) e x ss l event d.kernel (heaps_stay basis b.journal.table l.journal.table d.recorded.alone.same_table ss can.rest.heaps) d.recorded
+      (inr (inl (record { touches = d.recorded.touches; idle = d.idle; shared_is = refl })))
 
-    pub inside_operated : (e : Guest) (l : BookRecord) (pid : Pid) → pid ≡ h.cell.pid → IsPublishedWhereFull basis h e b l → HasOperated basis op g e k k ss ss b l (Done pid op said)
-    inside_operated e l pid is (inl stays) =
-        subst (λ (x : BookRecord). HasOperated basis op g e k k ss ss b x (Done pid op said)) (sym stays.2)
-        (subst (λ (x : Guest). HasOperated basis op g x k k ss ss b b (Done pid op said)) (sym stays.1) (record {
-          can = record { guest = serves_inside; rest = can.rest };
-          same_table = refl;
-          pid = same_process;
-          said = said;
-          event_is = ap (λ (p : Pid). Done p op said) (is ∙ same_process);
-          done = inl (record { own = own; inside = d; few = stays.0; kernel_is = refl; shared_is = refl; book_is = refl });
-        }))
-    inside_operated e l pid is (inr full) = record {
-      can = record {
-        guest = full.1.keeps.guest;
-        rest = record {
-          kernel = kernel_stays basis b.journal.table l.journal.table full.1.keeps.same_table k can.rest.kernel;
-          heaps = heaps_stay basis b.journal.table l.journal.table full.1.keeps.same_table ss can.rest.heaps;
-          book = full.1.keeps.book;
-        };
-      };
-      same_table = full.1.keeps.same_table;
-      pid = full.1.keeps.pid ∙ same_process;
-      said = said;
-      event_is = ap (λ (p : Pid). Done p op said) (is ∙ same_process);
-      done = inr (inl (record { own = own; mid = h; inside = d; full = full.0; published = full.1; kernel_is = refl; shared_is = refl }));
-    }
+  pub heap_there : (id : SharedId) → IsDue basis g b op (Shared id ∷ []) → id.0 < length ss
+  heap_there id due =
+      let known = heap_reached basis.trace b can.rest.book.stands g.cell.pid.0 id (idle_part g.cell.value) op due.ready.in_range due.touches in
+      let count = can.rest.heaps.count in
+      omega (arith, known, count)
 
-  -- an operation that is not done inside
-  module _ (h : Guest) (same : h ≡ g) (outside : IsFalse (is_local_in (idle_part g.cell.value) g.cell.pid.0 op)) where
-    pub reach_can : CanReach basis.trace h.cell b op
-    reach_can = subst (λ (x : Guest). CanReach basis.trace x.cell b op) (sym same) (record { book_stands = can.rest.book.stands; agrees = can.guest.agrees; in_range = ready.in_range })
+  module _ (id : SharedId) (s : SharedRecord) (at : slice_get ss id.0 ≡ Some s) where
+    pub named : s.id ≡ id
+    named = ap (λ n. record { 0 = n }) (can.rest.heaps.placed id.0 s at)
 
-    -- what the provision asks
-    pub stock : h.cell.bodies ≡ supply_of basis h.bodies
-    stock = subst (λ (x : Guest). x.cell.bodies ≡ supply_of basis x.bodies) (sym same) can.guest.stock
+    told : touched_by basis g b op ≡ Shared s.id ∷ [] → touched_by basis g b op ≡ Shared id ∷ []
+    told touches = touches ∙ ap (λ (i : SharedId). Shared i ∷ []) named
 
-    -- the process that is provided with its body serves
-    serves_provided : GuestServesWith basis b.journal.table (bodies_for basis op (left_after basis op g.bodies)) (provided_for basis op g)
-    serves_provided = record {
-      rules = can.guest.rules;
-      agrees = can.guest.agrees;
-      table = can.guest.table;
-      stock = refl;
-      exits = can.guest.exits;
-      serials = can.guest.serials;
-      tail = can.guest.tail;
-    }
+    pub shared_serves : SharedServes basis b.journal.table s
+    shared_serves = can.rest.heaps.each id.0 s at
 
-    ready_provided : IsReady basis (provided_for basis op g) op
-    ready_provided = record {
-      in_range = ready.in_range;
-      no_collection = ready.no_collection;
-      goes_on = ready.goes_on;
-      awake = record { lives = ready.awake.lives; idle = ready.awake.idle };
-      room = ready.room;
-    }
+    pub shared_operated : (e : Guest) (t : SharedRecord) (l : BookRecord) (event : Event) → IsRecordedWithShared basis op g e s t b l event → HasOperated basis op g e k k ss (set ss id.0 t) b l event
+    shared_operated e t l event d =
+        operated (Shared s.id ∷ []) e k (set ss id.0 t) l event (kernel_stays basis b.journal.table l.journal.table d.recorded.alone.same_table k can.rest.kernel)
+        (heaps_set basis b.journal.table l.journal.table d.recorded.alone.same_table ss id.0 s t can.rest.heaps at d.shared d.same) d.recorded
+        (inr (inr (record { id = id; after = t; touches = told d.recorded.touches; kernel_is = refl; shared_is = refl })))
 
-    pub heap_there : (id : SharedId) → other_cells_in basis.trace (book_shown_by b.value) (idle_part h.cell.value) h.cell.pid.0 op ≡ Shared id ∷ [] → id.0 < length ss
-    heap_there id touches =
-        let known = heap_reached basis.trace b can.rest.book.stands h.cell.pid.0 id (idle_part h.cell.value) op ready.in_range touches in
-        let count = can.rest.heaps.count in
-        omega (arith, known, count)
+    pub shared_barred : (why : HostError) → CanNotDoWithShared basis s b op g why → CanNotOperateAlone basis k ss b op g why
+    shared_barred why (inl none) = try_barred why none
+    shared_barred why (inr heap) = inl (inr (inr (inr (inr (record { id = id; heap = s; there = at; touches = told heap.touches; barred = heap.barred })))))
 
-    -- an operation whose process is provided with its body
-    module _ (p : Guest) (is : p ≡ provided_for basis op h) where
-      provided : p ≡ provided_for basis op g
-      provided = is ∙ ap (provided_for basis op) same
+-- an operation whose cells are told by a try inside that has changed nothing
+module _ (basis : Basis) (g : Guest) (k : HoldingsValue) (ss : List SharedRecord) (b : BookRecord) (op : Op) (can : CanOperate basis g k ss b) (h : Guest) (m : BookRecord) (reached : Reach) (left : IsLeft basis op g h b m reached) where
+  before : (P : Guest → BookRecord → Type 0) → P h m → P g b
+  before P holds = as_before basis op g h b m reached left P holds
 
-      pub due : (cells : List Cell) → touched_by basis h b op ≡ cells → IsDueWith basis p b op cells
-      due cells touches =
-          subst (λ (x : Guest). IsDueWith basis x b op cells) (sym provided)
-          (record { guest = serves_provided; book = can.rest.book; ready = ready_provided; outside = outside; room = room; touches = touched_before basis g h b op same cells touches })
+  pub alone_done : (r : Result Event HostError) (e : Guest) (l : BookRecord) → IfOk r (λ event. IsRecordedWith basis op [] h e m l event) → IfOk r (λ event. HasOperated basis op g e k k ss ss b l event)
+  alone_done (Ok event) e l done = alone_operated basis g k ss b op can e l event (before (λ (x : Guest) (y : BookRecord). IsRecordedWith basis op [] x e y l event) done)
+  alone_done (Err why) e l done = tt
 
-      operated : (e : Guest) (x : HoldingsValue) (ts : List SharedRecord) (l : BookRecord) (event : Event) → KernelServes basis l.journal.table x → HeapsServe basis l.journal.table ts → HasDoneAlone basis op p e b l event →
-          LeavesOthers (touched_by basis g b op) k x ss ts → HasOperated basis op g e k x ss ts b l event
-      operated e x ts l event kernel heaps done others =
-          let d = subst (λ (y : Guest). HasDoneAlone basis op y e b l event) provided done in
-          record {
-            can = record { guest = d.guest; rest = record { kernel = kernel; heaps = heaps; book = d.book } };
-            same_table = d.same_table;
-            pid = d.pid;
-            said = d.said;
-            event_is = d.event_is;
-            done = inr (inr (record { outside = outside; appended = record { journal = d.appended.journal; possible = d.appended.possible }; settled = d.settled; idle = d.idle; bodies = d.bodies; others = others }));
-          }
+  pub alone_same : (r : Result Event HostError) (e : Guest) (l : BookRecord) → IfErr r (λ why. (e ≡ h) × (l ≡ m)) → IfErr r (λ why. (e ≡ g) × (k ≡ k) × (ss ≡ ss) × (l ≡ b))
+  alone_same (Ok event) e l same = tt
+  alone_same (Err why) e l same = (same.0 ∙ left.guest_is, refl, refl, same.1 ∙ left.book_is)
 
-      pub own_left : HasOwnRoom basis h b op → HasOwnRoom basis p b op
-      own_left left = subst (λ (x : Guest). HasOwnRoom basis x b op) (sym provided) (provided_left basis g b op (subst (λ (x : Guest). HasOwnRoom basis x b op) same left))
+  pub alone_why : (r : Result Event HostError) → IfErr r (λ why. CanNotDoAlone basis m op h why) → IfErr r (λ why. CanNotOperateAlone basis k ss b op g why)
+  alone_why (Ok event) lacks = tt
+  alone_why (Err why) lacks = alone_barred basis g k ss b op can why (before (λ (x : Guest) (y : BookRecord). CanNotDoAlone basis y op x why) lacks)
 
-      pub alone_operated : (e : Guest) (l : BookRecord) (event : Event) → touched_by basis h b op ≡ [] → HasDoneAlone basis op p e b l event → HasOperated basis op g e k k ss ss b l event
-      alone_operated e l event touches d =
-          operated e k ss l event (kernel_stays basis b.journal.table l.journal.table d.same_table k can.rest.kernel) (heaps_stay basis b.journal.table l.journal.table d.same_table ss can.rest.heaps) d
-          (inl (record { touches = touched_before basis g h b op same [] touches; kernel_is = refl; shared_is = refl }))
+  pub kernel_there : KernelServes basis m.journal.table k
+  kernel_there = subst (λ (y : BookRecord). KernelServes basis y.journal.table k) (sym left.book_is) can.rest.kernel
 
-      pub can_kernel : IsKernelReady basis k b op → other_cells_in basis.trace (book_shown_by b.value) (idle_part h.cell.value) h.cell.pid.0 op ≡ Kernel ∷ [] → CanDoWithKernel basis p k b op
-      can_kernel kernel touches = record { due = due (Kernel ∷ []) touches; kernel = can.rest.kernel; ready = kernel }
+  pub kernel_done : (r : Result Event HostError) (e : Guest) (x : HoldingsValue) (l : BookRecord) → IfOk r (λ event. IsRecordedWithKernel basis op h e x m l event) → IfOk r (λ event. HasOperated basis op g e k x ss ss b l event)
+  kernel_done (Ok event) e x l done = kernel_operated basis g k ss b op can e x l event (before (λ (y : Guest) (z : BookRecord). IsRecordedWithKernel basis op y e x z l event) done)
+  kernel_done (Err why) e x l done = tt
 
-      pub kernel_operated : (e : Guest) (x : HoldingsValue) (l : BookRecord) (event : Event) → touched_by basis h b op ≡ Kernel ∷ [] → HasDoneWithKernel basis op p e x b l event →
-          HasOperated basis op g e k x ss ss b l event
-      kernel_operated e x l event touches d =
-          operated e x ss l event d.kernel (heaps_stay basis b.journal.table l.journal.table d.own.same_table ss can.rest.heaps) d.own
-          (inr (inl (record { touches = touched_before basis g h b op same (Kernel ∷ []) touches; idle = d.idle; shared_is = refl })))
+  pub kernel_same : (r : Result Event HostError) (e : Guest) (x : HoldingsValue) (l : BookRecord) → IfErr r (λ why. (e ≡ h) × (x ≡ k) × (l ≡ m)) → IfErr r (λ why. (e ≡ g) × (x ≡ k) × (ss ≡ ss) × (l ≡ b))
+  kernel_same (Ok event) e x l same = tt
+  kernel_same (Err why) e x l same = (same.0 ∙ left.guest_is, same.1, refl, same.2 ∙ left.book_is)
 
-      module _ (id : SharedId) (s : SharedRecord) (at : slice_get ss id.0 ≡ Some s) where
-        pub can_shared : HasSharedRoom basis s b op → other_cells_in basis.trace (book_shown_by b.value) (idle_part h.cell.value) h.cell.pid.0 op ≡ Shared id ∷ [] → CanDoWithShared basis p s b op
-        can_shared left touches = record {
-          due = due (Shared s.id ∷ []) (touches ∙ ap (λ (i : SharedId). Shared i ∷ []) (sym (ap (λ n. record { 0 = n }) (can.rest.heaps.placed id.0 s at))));
-          shared = can.rest.heaps.each id.0 s at;
-          room = left;
-        }
+  pub kernel_why : (r : Result Event HostError) → IfErr r (λ why. CanNotDoWithKernel basis k m op h why) → IfErr r (λ why. CanNotOperateAlone basis k ss b op g why)
+  kernel_why (Ok event) lacks = tt
+  kernel_why (Err why) lacks = kernel_barred basis g k ss b op can why (before (λ (x : Guest) (y : BookRecord). CanNotDoWithKernel basis k y op x why) lacks)
 
-        pub shared_operated : (e : Guest) (t : SharedRecord) (l : BookRecord) (event : Event) → touched_by basis h b op ≡ Shared id ∷ [] → HasDoneWithShared basis op p e s t b l event →
-            HasOperated basis op g e k k ss (set ss id.0 t) b l event
-        shared_operated e t l event touches d =
-            operated e k (set ss id.0 t) l event (kernel_stays basis b.journal.table l.journal.table d.own.same_table k can.rest.kernel)
-            (heaps_set basis b.journal.table l.journal.table d.own.same_table ss id.0 s t can.rest.heaps at d.shared d.same) d.own
-            (inr (inr (record { id = id; after = t; touches = touched_before basis g h b op same (Shared id ∷ []) touches; kernel_is = refl; shared_is = refl })))
+  module _ (id : SharedId) (is : reached ≡ SharedReach id) where
+    pub place_there : id.0 < length ss
+    place_there = heap_there basis g k ss b op can id (subst (λ (r : Reach). IsDue basis g b op (cells_of r)) is left.due)
+
+    module _ (s : SharedRecord) (at : slice_get ss id.0 ≡ Some s) where
+      pub heap_due : IsDue basis h m op (Shared s.id ∷ [])
+      heap_due = due_now basis op g h b m reached left (Shared s.id ∷ []) (ap cells_of is ∙ ap (λ (i : SharedId). Shared i ∷ []) (sym (named basis g k ss b op can id s at)))
+
+      pub heap_serves : SharedServes basis m.journal.table s
+      heap_serves = subst (λ (y : BookRecord). SharedServes basis y.journal.table s) (sym left.book_is) (shared_serves basis g k ss b op can id s at)
+
+      pub heap_done : (r : Result Event HostError) (e : Guest) (t : SharedRecord) (l : BookRecord) → IfOk r (λ event. IsRecordedWithShared basis op h e s t m l event) → IfOk r (λ event. HasOperated basis op g e k k ss (set ss id.0 t) b l event)
+      heap_done (Ok event) e t l done = shared_operated basis g k ss b op can id s at e t l event (before (λ (y : Guest) (z : BookRecord). IsRecordedWithShared basis op y e s t z l event) done)
+      heap_done (Err why) e t l done = tt
+
+      pub heap_same : (r : Result Event HostError) (e : Guest) (t : SharedRecord) (l : BookRecord) → IfErr r (λ why. (e ≡ h) × (t ≡ s) × (l ≡ m)) → s ≡ get_or ss id.0 s → IfErr r (λ why. (e ≡ g) × (k ≡ k) × (set ss id.0 t ≡ ss) × (l ≡ b))
+      heap_same (Ok event) e t l same read = tt
+      heap_same (Err why) e t l same read = (same.0 ∙ left.guest_is, refl, ap (set ss id.0) (same.1 ∙ read) ∙ set-get_or ss id.0 s, same.2 ∙ left.book_is)
+
+      pub heap_why : (r : Result Event HostError) → IfErr r (λ why. CanNotDoWithShared basis s m op h why) → IfErr r (λ why. CanNotOperateAlone basis k ss b op g why)
+      heap_why (Ok event) lacks = tt
+      heap_why (Err why) lacks = shared_barred basis g k ss b op can id s at why (before (λ (x : Guest) (y : BookRecord). CanNotDoWithShared basis s y op x why) lacks)

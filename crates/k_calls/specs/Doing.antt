@@ -115,14 +115,22 @@ IsPublishedWhereFull basis old g old_b b =
     (HasTailRoom basis old × (g ≡ old) × (b ≡ old_b)) ⊎ ((basis.rooms.tail ≤ length old.cell.value.tail) × HasPublishedAll basis old g old_b b)
 
 -- process and book serve and are ready for the operation, which is not done inside the heap and touches these cells beside the own; the
--- process has the body of the object that it makes
-pub record IsDueWith (basis : Basis) (g : Guest) (b : BookRecord) (op : Op) (cells : List Cell) : Type 0 where
-  pub guest : GuestServesWith basis b.journal.table (bodies_for basis op g.bodies) g
+-- process has these bodies
+pub record IsDueBy (basis : Basis) (bodies : List BodyValue) (g : Guest) (b : BookRecord) (op : Op) (cells : List Cell) : Type 0 where
+  pub guest : GuestServesWith basis b.journal.table bodies g
   pub book : BookServes basis b
   pub ready : IsReady basis g op
   pub outside : IsFalse (is_local_in (idle_part g.cell.value) g.cell.pid.0 op)
   pub room : HasEventsLeft basis g b
   pub touches : other_cells_in basis.trace (book_shown_by b.value) (idle_part g.cell.value) g.cell.pid.0 op ≡ cells
+
+-- the operation is due, and the process has the bodies of its supply
+abbrev pub IsDue : Basis → Guest → BookRecord → Op → List Cell → Type 0
+IsDue basis g b op cells = IsDueBy basis (supply_of basis g.bodies) g b op cells
+
+-- the operation is due, and the process has the body of the object that it makes
+abbrev pub IsDueWith : Basis → Guest → BookRecord → Op → List Cell → Type 0
+IsDueWith basis g b op cells = IsDueBy basis (bodies_for basis op g.bodies) g b op cells
 
 -- behind what the process had unpublished the event is possible, and the newest of the journal
 pub record IsAppended (basis : Basis) (old : Guest) (old_b b : BookRecord) (event : Event) : Type 0 where

@@ -1,4 +1,5 @@
 pub mod Adding
+pub mod Apart
 pub mod Doing
 pub mod Refusals
 pub use Rattle.k_operate.specs.Reaching

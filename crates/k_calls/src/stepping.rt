@@ -6,14 +6,12 @@ ghost use Rattle.k_guests.specs.Serving.{BookServes, GuestServes, HasTailRoom, b
 ghost use Rattle.k_calls.specs.Doing.{CanOperate, HasDoneInside, HasOperated, HasPublishedAll};
 ghost use Rattle.k_calls.specs.Refusals.{CanNotDoInside, CanNotOperateAlone, CanNotPublish};
 
-use crate::adding::{kernel_ready, own_room, shared_room};
-use crate::doing::{
-    do_alone, do_inside, do_with_kernel, do_with_shared, publish_all, publish_where_full, reached,
-};
+use crate::apart::{record_alone, record_with_kernel, record_with_shared, try_here};
+use crate::came::Came;
+use crate::doing::{do_inside, publish_all};
 use crate::errors::HostError;
-use crate::providing::provide;
 use crate::ranges::is_in_range;
-use crate::readiness::{awake, has_count_room, has_room_to_publish, ready, room_left};
+use crate::readiness::{awake, has_count_room, has_room_to_publish};
 use k_book::Book;
 use k_guests::{Guest, Terms};
 use k_kernel::KernelCell;
@@ -82,33 +80,17 @@ pub fn operate_with(
     ensures same { IfErr result (λ why. (guest.new ≡ guest.old) × (kernel.new ≡ kernel.old) × (shared.new.items ≡ shared.old.items) × (book.new ≡ book.old)) }
     ensures why { IfErr result (λ why. CanNotOperateAlone (basis_of terms.now) kernel.old shared.old.items book.old op.now guest.old why) }
 {
-    ready(terms, guest, op)?;
-    room_left(terms, guest, book)?;
-    if let Some(reply) = do_inside(terms, guest, op) {
-        let pid = guest.cell.pid();
-        publish_where_full(terms, guest, book);
-        return Ok(Event::Done {
-            pid,
-            op: *op,
-            reply,
-        });
-    }
-    match reached(terms, guest, book, op) {
-        Reach::Own => {
-            own_room(terms, guest, book, op)?;
-            provide(alloc, terms, guest, op)?;
-            Ok(do_alone(terms, guest, book, op))
-        }
-        Reach::Kernel => {
-            kernel_ready(terms, kernel, book, op)?;
-            provide(alloc, terms, guest, op)?;
-            Ok(do_with_kernel(terms, guest, kernel, book, op))
-        }
+    let came = try_here(terms, guest, book, op)?;
+    let reach = match came {
+        Came::Did(event) => return Ok(event),
+        Came::Needs(reach) => reach,
+    };
+    match reach {
+        Reach::Own => record_alone(alloc, terms, guest, book, op),
+        Reach::Kernel => record_with_kernel(alloc, terms, guest, kernel, book, op),
         Reach::Shared(id) => {
             let heap = &mut shared[id.0 as usize];
-            shared_room(terms, heap, book, op)?;
-            provide(alloc, terms, guest, op)?;
-            Ok(do_with_shared(terms, guest, heap, book, op))
+            record_with_shared(alloc, terms, guest, heap, book, op)
         }
         Reach::End(_) => Err(HostError::OwnCall),
     }

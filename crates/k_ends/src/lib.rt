@@ -16,7 +16,8 @@ mod starting;
 mod whole;
 
 pub use k_calls::{
-    Guest, HostError, Rooms, Terms, are_fit, make_parts, operate_with, try_inside, try_publish,
+    Came, Guest, HostError, Parts, Reach, Rooms, Terms, are_fit, make_parts, operate_with,
+    try_inside, try_own, try_publish, try_with_kernel, try_with_shared,
 };
 pub use killing::try_kill;
 pub use starting::{

@@ -7,8 +7,10 @@ use Rattle.k_book.specs.Books.{BookRecord}
 use Rattle.k_cell.specs.Holdings.{HoldingsValue}
 use Rattle.k_shared.specs.SharedHeaps.{SharedRecord}
 use Rattle.k_ends.specs.k_guests.declared.guest.Guest.{Guest}
+use Rattle.k_ends.specs.k_guests.declared.making.Parts.{Parts}
+use Rattle.k_ends.specs.k_guests.declared.terms.Terms.{Terms}
 use Rattle.k_ends.specs.k_guests.Making.{IsFirstGuest}
-use Rattle.k_ends.specs.k_guests.Serving.{Basis, GuestsServe, HasTailRoom, RestServes}
+use Rattle.k_ends.specs.k_guests.Serving.{Basis, GuestsServe, HasTailRoom, RestServes, basis_of}
 
 -- a host: what its parts have in common, its processes, the cells of the kernel and of the shared heaps, and the book
 pub record HostValue : Type 0 where
@@ -17,6 +19,10 @@ pub record HostValue : Type 0 where
   pub kernel : HoldingsValue
   pub shared : List SharedRecord
   pub book : BookRecord
+
+-- the host of these parts, which is made for these terms
+abbrev pub host_of_parts : Terms → Parts → HostValue
+host_of_parts terms parts = record { basis = basis_of terms; guests = parts.guests.items; kernel = parts.kernel; shared = parts.shared.items; book = parts.book }
 
 -- one event more of each process can be unpublished
 abbrev pub HaveTailRoom : Basis → List Guest → Type 0

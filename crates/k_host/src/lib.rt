@@ -10,6 +10,8 @@
 //!
 //! A whole collection writes the names of what it freed into a list, [`Freed`].
 //!
+//! [`Host::into_parts`] takes a host apart, for calls over its parts.
+//!
 //! A [`Twin`] is the machine on one thread beside a host, which takes the events that the host answers.
 #![tactic(auto)]
 
@@ -20,6 +22,7 @@ mod host;
 mod killing;
 mod laws;
 mod looking;
+mod parting;
 mod places;
 mod twin;
 

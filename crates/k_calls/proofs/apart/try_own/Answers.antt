@@ -1,0 +1,42 @@
+use Rattle.std.proofs.Common.{[], sym, ◌∙◌, inl, inr}
+use Rattle.std.proofs.lemmas.Bool.{false≢true}
+use Rattle.k_book.specs.Books.{BookRecord}
+use Rattle.k_limits.proofs.Making.{handed_on}
+use Rattle.k_guests.specs.declared.guest.Guest.{Guest}
+use Rattle.k_guests.specs.Serving.{basis_of}
+use Rattle.k_calls.specs.Apart.{CanNotDoAlone, IsRecordedWith}
+use Rattle.k_calls.proofs.Lent.{as_before, due_now, tried_done, tried_left}
+use Rattle.k_calls.proofs.apart.try_own.Goals as goal
+
+pub returns-in_err-came-clause-why : goal.returns-in_err-came-clause-why
+returns-in_err-came-clause-why c =
+    handed_on (CanNotDoAlone (basis_of c.args.terms.now) c.args.book.now c.args.op.now c.args.guest.now) c.from_residual.result c.in_err-came.field-0.0 c.from_residual.ensures.1 (inl c.in_err-came.ensures.why)
+
+pub returns-in-Did-clause-done : goal.returns-in-Did-clause-done
+returns-in-Did-clause-done c = inl (tried_done (basis_of c.args.terms.now) c.args.op.now c.args.guest.now c.try_here.new.guest c.args.book.now c.try_here.new.book c.in_ok-came.came c.in_ok-came.ensures.done c.in-Did.event c.in-Did.is)
+
+pub returns-then-not-is_own-clause-done : goal.returns-then-not-is_own-clause-done
+returns-then-not-is_own-clause-done c =
+    let left = tried_left (basis_of c.args.terms.now) c.args.op.now c.args.guest.now c.try_here.new.guest c.args.book.now c.try_here.new.book c.in_ok-came.came c.in_ok-came.ensures.done c.in-Needs.reach c.in-Needs.is in
+    record { left = left; others = λ is. false≢true (sym c.if-not-is_own.true ∙ c.is_own.ensures.1 is) }
+
+pub record_alone-requires : goal.record_alone-requires
+record_alone-requires c =
+    let left = tried_left (basis_of c.args.terms.now) c.args.op.now c.args.guest.now c.try_here.new.guest c.args.book.now c.try_here.new.book c.in_ok-came.came c.in_ok-came.ensures.done c.in-Needs.reach c.in-Needs.is in
+    due_now (basis_of c.args.terms.now) c.args.op.now c.args.guest.now c.try_here.new.guest c.args.book.now c.try_here.new.book c.in-Needs.reach left ([]) (c.is_own.ensures.0 c.if-not-is_own.false)
+
+pub returns-in_err-event-clause-same : goal.returns-in_err-event-clause-same
+returns-in_err-event-clause-same c =
+    let left = tried_left (basis_of c.args.terms.now) c.args.op.now c.args.guest.now c.try_here.new.guest c.args.book.now c.try_here.new.book c.in_ok-came.came c.in_ok-came.ensures.done c.in-Needs.reach c.in-Needs.is in
+    handed_on _ c.from_residual-in_err-event.result c.in_err-event.field-0.0 c.from_residual-in_err-event.ensures.1 (c.in_err-event.ensures.same.0 ∙ left.guest_is, c.in_err-event.ensures.same.1 ∙ left.book_is)
+
+pub returns-in_err-event-clause-why : goal.returns-in_err-event-clause-why
+returns-in_err-event-clause-why c =
+    let left = tried_left (basis_of c.args.terms.now) c.args.op.now c.args.guest.now c.try_here.new.guest c.args.book.now c.try_here.new.book c.in_ok-came.came c.in_ok-came.ensures.done c.in-Needs.reach c.in-Needs.is in
+    handed_on (CanNotDoAlone (basis_of c.args.terms.now) c.args.book.now c.args.op.now c.args.guest.now) c.from_residual-in_err-event.result c.in_err-event.field-0.0 c.from_residual-in_err-event.ensures.1
+    (as_before (basis_of c.args.terms.now) c.args.op.now c.args.guest.now c.try_here.new.guest c.args.book.now c.try_here.new.book c.in-Needs.reach left (λ (x : Guest) (y : BookRecord). CanNotDoAlone (basis_of c.args.terms.now) y c.args.op.now x c.in_err-event.field-0.0) c.in_err-event.ensures.why)
+
+pub returns-clause-done : goal.returns-clause-done
+returns-clause-done c =
+    let left = tried_left (basis_of c.args.terms.now) c.args.op.now c.args.guest.now c.try_here.new.guest c.args.book.now c.try_here.new.book c.in_ok-came.came c.in_ok-came.ensures.done c.in-Needs.reach c.in-Needs.is in
+    inr (as_before (basis_of c.args.terms.now) c.args.op.now c.args.guest.now c.try_here.new.guest c.args.book.now c.try_here.new.book c.in-Needs.reach left (λ (x : Guest) (y : BookRecord). IsRecordedWith (basis_of c.args.terms.now) c.args.op.now [] x c.record_alone.new.guest y c.record_alone.new.book c.in_ok-event.event) c.in_ok-event.ensures.done)
