@@ -18,6 +18,7 @@ use k_shared::SharedCell;
 use k_types::{Event, Op, Reply};
 
 /// Does the operation inside the process's own heap, if it needs that heap alone.
+#[inline(always)]
 pub(crate) fn do_inside(terms: &Terms, guest: &mut Guest, op: &Op) -> Option<Reply>
     ghost basis: { Basis }
     requires { CanDoInside basis guest.old op.now }

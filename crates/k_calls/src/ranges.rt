@@ -43,6 +43,7 @@ fn is_maximum(max: u64) -> bool
 }
 
 /// Whether the numbers in the operation are those of the setup, and a maximum that it sets is one that a limit may have.
+#[inline(always)]
 #[tactic(auto, unfolding(k_types::specs::Steps::in_range))]
 pub(crate) fn is_in_range(setup: &Setup, op: &Op) -> bool
     ensures { result ≡ in_range (open_trace setup.now) op.now }

@@ -11,6 +11,7 @@ use k_guests::{Guest, Terms};
 use k_types::{CellPhase, Op};
 
 /// Whether the operation has no call of its own.
+#[inline(always)]
 fn is_plain(op: &Op) -> bool
     ensures { result ≡ is_plain op.now }
 {
@@ -132,6 +133,7 @@ pub(crate) fn has_count_room(guest: &Guest) -> bool
 }
 
 /// Whether the process can try the operation now.
+#[inline(always)]
 pub fn ready(terms: &Terms, guest: &Guest, op: &Op) -> Result<(), HostError>
     ensures ok { OnOk result (IsReady (basis_of terms.now) guest.now op.now) }
     ensures why { IfErr result (λ why. IsNotReady (basis_of terms.now) guest.now op.now why) }

@@ -65,6 +65,7 @@ pub fn try_publish(terms: &Terms, guest: &mut Guest, book: &mut Book) -> Result<
 /// Does the operation with whatever it touches, if it is ready and there is room, and memory for the object that it makes. What is done
 /// inside the heap is published once no event more can be unpublished. A `kill` that ends another process has a call of its own, which is
 /// lent that process too.
+#[inline(always)]
 pub fn operate_with(
     alloc: Global,
     terms: &Terms,
