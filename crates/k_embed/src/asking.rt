@@ -81,6 +81,7 @@ fn freed_name(keeper: &Keeper, at: u32) -> Option<Name>
 }
 
 /// The answer to a question; none where the request asks none.
+#[inline(always)]
 pub(crate) fn ask(keeper: &Keeper, request: &Request) -> Option<Answer>
     ensures { result ≡ told_of keeper.now request.now }
 {

@@ -168,6 +168,7 @@ fn refused(fault: Fault) -> Answer
 }
 
 /// The reply of an operation.
+#[inline(always)]
 fn replied(reply: Reply) -> Answer
     ensures { result ≡ of_reply reply }
 {
@@ -181,6 +182,7 @@ fn replied(reply: Reply) -> Answer
 }
 
 /// What an event tells.
+#[inline(always)]
 pub(crate) fn happened(event: Event) -> Answer
     ensures { result ≡ of_event event }
 {
@@ -211,6 +213,7 @@ pub(crate) fn happened(event: Event) -> Answer
 }
 
 /// What came of a call that has an event.
+#[inline(always)]
 pub(crate) fn of_event(came: Result<Event, HostError>) -> Answer
     ensures { result ≡ of_result came }
 {

@@ -1,6 +1,7 @@
 //! Operations, and the whole calls of another kind: collections, ends and absorptions.
 ghost use Rattle.std.specs.Prelude.{◌≡◌};
-ghost use Rattle.k_embed.specs.Asked.{operation_of, whole_of};
+ghost use Rattle.k_types.specs.declared.op.Op.TheVariants.{Get as GetOp, Load as LoadOp, Move as MoveOp, New as NewOp, Put as PutOp, Store as StoreOp};
+ghost use Rattle.k_embed.specs.Asked.{base_of, operation_of, reg_of, type_of, whole_of};
 ghost use Rattle.k_embed.specs.Served.{HasCome};
 
 use crate::messages::Request;
@@ -20,18 +21,77 @@ pub enum Whole {
     Absorb(SharedId),
 }
 
+/// A new object of the type, by the numbers of the request.
+pub(crate) fn new_by(request: &Request) -> Op
+    ensures { result ≡ NewOp (reg_of request.now) (type_of request.now) }
+{
+    Op::New {
+        reg: Reg(request.reg),
+        ty: TypeId(request.at),
+    }
+}
+
+/// A reference stored into a field, by the numbers of the request.
+pub(crate) fn store_by(request: &Request) -> Op
+    ensures { result ≡ StoreOp (base_of request.now) request.now.at (reg_of request.now) }
+{
+    Op::Store {
+        base: Reg(request.base),
+        field: request.at,
+        value: Reg(request.reg),
+    }
+}
+
+/// A reference loaded from a field, by the numbers of the request.
+pub(crate) fn load_by(request: &Request) -> Op
+    ensures { result ≡ LoadOp (reg_of request.now) (base_of request.now) request.now.at }
+{
+    Op::Load {
+        reg: Reg(request.reg),
+        base: Reg(request.base),
+        field: request.at,
+    }
+}
+
+/// A register copied, by the numbers of the request.
+pub(crate) fn move_by(request: &Request) -> Op
+    ensures { result ≡ MoveOp (reg_of request.now) (base_of request.now) }
+{
+    Op::Move {
+        reg: Reg(request.reg),
+        from: Reg(request.base),
+    }
+}
+
+/// A number put into a field, by the numbers of the request.
+pub(crate) fn put_by(request: &Request) -> Op
+    ensures { result ≡ PutOp (base_of request.now) request.now.at request.now.number }
+{
+    Op::Put {
+        base: Reg(request.base),
+        field: request.at,
+        number: request.number,
+    }
+}
+
+/// A number read from a field, by the numbers of the request.
+pub(crate) fn get_by(request: &Request) -> Op
+    ensures { result ≡ GetOp (base_of request.now) request.now.at }
+{
+    Op::Get {
+        base: Reg(request.base),
+        field: request.at,
+    }
+}
+
 /// The operation that a request asks for, where it asks for one that a host does at once.
 pub(crate) fn operation(request: &Request) -> Option<Op>
     ensures { result ≡ operation_of request.now }
 {
     let reg = Reg(request.reg);
-    let base = Reg(request.base);
     let at = request.at;
     match request.call {
-        0 => Some(Op::New {
-            reg,
-            ty: TypeId(at),
-        }),
+        0 => Some(new_by(request)),
         1 => Some(Op::KNew {
             reg,
             ty: TypeId(at),
@@ -41,25 +101,13 @@ pub(crate) fn operation(request: &Request) -> Option<Op>
             shared: SharedId(at),
             ty: TypeId(request.to),
         }),
-        3 => Some(Op::Store {
-            base,
-            field: at,
-            value: reg,
-        }),
-        4 => Some(Op::Load {
-            reg,
-            base,
-            field: at,
-        }),
-        5 => Some(Op::Move { reg, from: base }),
+        3 => Some(store_by(request)),
+        4 => Some(load_by(request)),
+        5 => Some(move_by(request)),
         6 => Some(Op::Clear { reg }),
         7 => Some(Op::Dir { reg }),
-        8 => Some(Op::Put {
-            base,
-            field: at,
-            number: request.number,
-        }),
-        9 => Some(Op::Get { base, field: at }),
+        8 => Some(put_by(request)),
+        9 => Some(get_by(request)),
         10 => Some(Op::Share {
             shared: SharedId(at),
         }),

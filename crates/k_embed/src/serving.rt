@@ -6,7 +6,9 @@ ghost use Rattle.k_embed.specs.Served.{IsActed, IsDoneWhole, IsOpened, IsServed,
 
 use crate::asking::ask;
 use crate::codes::{lacking_host, no_call, of_event};
-use crate::doing::{Whole, do_whole, operation, whole_asked};
+use crate::doing::{
+    Whole, do_whole, get_by, load_by, move_by, new_by, operation, put_by, store_by, whole_asked,
+};
 use crate::events::{is_take, take_next};
 use crate::messages::{Answer, Request, Rooms};
 use k_keeper::{Keeper, OpenError};
@@ -83,7 +85,9 @@ pub fn opened(alloc: Global, text: &[u8], ty: u32, bodies: u32, rooms: Rooms) ->
     }
 }
 
-/// Does the operation of the process, and answers in numbers.
+/// Does the operation of the process, and answers in numbers. Its code stands where it is called, and has of all operations those alone
+/// that can come there.
+#[inline(always)]
 pub fn act(host: &mut Keeper, pid: Pid, op: &Op) -> Answer
     ensures { IsActed host.old host.new pid op.now result }
 {
@@ -108,6 +112,7 @@ pub fn act_whole(host: &mut Keeper, pid: Pid, whole: Whole) -> Answer
 }
 
 /// Answers a question, or that there is no such call.
+#[inline(always)]
 fn answered(host: &Keeper, request: &Request) -> Answer
     ensures { result ≡ of_told (told_of host.now request.now) }
 {
@@ -118,6 +123,7 @@ fn answered(host: &Keeper, request: &Request) -> Answer
 }
 
 /// Takes the next event out, where the request asks for that, or answers a question.
+#[inline(always)]
 fn serve_rest(host: &mut Keeper, request: &Request) -> Answer
     ensures { IsServedRest host.old host.new request.now result }
 {
@@ -127,8 +133,27 @@ fn serve_rest(host: &mut Keeper, request: &Request) -> Answer
     answered(host, request)
 }
 
-/// Does what the request asks, and answers what came of it.
+/// Does what the request asks, and answers what came of it. What is asked for most is each a call in which the operation, or the question
+/// what a process is charged, is known.
 fn serve_host(host: &mut Keeper, request: &Request) -> Answer
+    ensures { IsServedOn host.old host.new request.now result }
+{
+    let pid = Pid(request.pid);
+    match request.call {
+        0 => act(host, pid, &new_by(request)),
+        3 => act(host, pid, &store_by(request)),
+        4 => act(host, pid, &load_by(request)),
+        5 => act(host, pid, &move_by(request)),
+        8 => act(host, pid, &put_by(request)),
+        9 => act(host, pid, &get_by(request)),
+        34 => serve_rest(host, request),
+        _ => serve_seldom(host, request),
+    }
+}
+
+/// Does what the request asks, whatever that is, and answers what came of it.
+#[inline(never)]
+fn serve_seldom(host: &mut Keeper, request: &Request) -> Answer
     ensures { IsServedOn host.old host.new request.now result }
 {
     let pid = Pid(request.pid);

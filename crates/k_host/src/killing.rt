@@ -23,6 +23,7 @@ fn other_place(guests: &[Guest], pid: Pid, target: Pid) -> Option<usize>
 }
 
 /// The place of the process that the operation kills, where it is another one of the host's. Constant time.
+#[inline(always)]
 pub(crate) fn killed(guests: &[Guest], pid: Pid, op: &Op) -> Option<usize>
     ensures { result ≡ killed_among (length guests.now) pid.0 op.now }
 {

@@ -139,6 +139,7 @@ impl Keeper {
     ///
     /// Each changes nothing: those of `Host::operate`, `Reserved` where no more is left than the reserve, and `Objects` also where the host
     /// has as many objects as all its heaps have room for.
+    #[inline(always)]
     pub fn operate(&mut self, pid: Pid, op: &Op) -> Result<Event, HostError>
         ensures done { IfOk result (λ event. HasOperatedIn self.old.host self.new.host pid op.now event) }
         ensures left { OnOk result (self.old.left ≡ self.new.left + 1) }
