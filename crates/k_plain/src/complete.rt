@@ -103,8 +103,8 @@ fn have_done(lists: &PlainLists, ops: &[Vec<Op>], events: &[Event]) -> bool
     true
 }
 
-// Whether no collection is open.
-fn is_quiet(lists: &PlainLists) -> bool
+/// Whether no collection is open. It looks at each heap.
+pub fn is_quiet(lists: &PlainLists) -> bool
     requires { IsSound lists.now.setup lists.now.state }
     ensures { IsTrue result ↔ (lists.now.state.scans ≡ []) }
 {

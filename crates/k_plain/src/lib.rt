@@ -14,5 +14,5 @@ mod operating;
 mod state;
 mod stepping;
 
-pub use complete::is_complete;
+pub use complete::{is_complete, is_quiet};
 pub use state::{PlainState, plain_step};

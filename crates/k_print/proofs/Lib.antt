@@ -1,0 +1,6 @@
+pub mod Legal
+pub mod Traced
+pub mod Accepted
+pub mod Spelled
+pub mod Stepped
+pub mod Tested
