@@ -22,8 +22,8 @@ typedef struct kaffe_host kaffe_host;
 /* What a call lacks. Nothing has changed. */
 enum kaffe_status {
     KAFFE_OK = 0,       /* the call is done */
-    KAFFE_UNKNOWN = 1,  /* no such process, register, type, limit or shared heap is declared, or a maximum is 2^40 or more; or the
-                           question has no answer */
+    KAFFE_UNKNOWN = 1,  /* no such process, register, type, limit or shared heap is declared, a field is 16 or above, or a maximum is
+                           2^40 or more; or the question has no answer */
     KAFFE_OWN_CALL = 2, /* the operation has a call of its own: no function of this header answers it */
     KAFFE_ENDED = 3,    /* the process has ended */
     KAFFE_PHASE = 4,    /* a collection of a heap that is touched is open: the functions of this header leave none open */

@@ -59,7 +59,8 @@ pub struct Freed {
 /// What a call lacks. Nothing has changed.
 #[derive(Clone, Copy, Debug, PartialEq, Eq)]
 pub enum Lack {
-    /// No such process, register, type, limit or shared heap is declared, or a maximum is 2^40 or more; or the question has no answer.
+    /// No such process, register, type, limit or shared heap is declared, a field is 16 or above, or a maximum is 2^40 or more; or the
+    /// question has no answer.
     Unknown,
     /// The operation has a call of its own. No method answers it.
     OwnCall,

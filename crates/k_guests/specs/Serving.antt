@@ -15,6 +15,7 @@ use Rattle.k_cell.specs.Holdings.{HoldingsValue}
 use Rattle.k_heap.specs.Heaps.{has_ended_in, own_segment}
 use Rattle.k_shared.specs.SharedHeaps.{SharedRecord}
 use Rattle.k_space.specs.Objects.{BodyValue, new_body}
+use Rattle.k_trace.specs.Named.{DeclaredNames}
 use Rattle.k_locked.specs.Standing.{BookStands}
 use Rattle.k_locked.specs.Keeping.{is_absorbed_in}
 use Rattle.k_guests.specs.declared.guest.Guest.{Guest}
@@ -26,16 +27,17 @@ use Rattle.k_guests.specs.Reserve.{kept_for}
 abbrev pub open_trace : Setup → Trace
 open_trace setup = trace_of setup (replicate (length setup.procs.items) []) []
 
--- what all parts of a host have in common: the trace with which they agree, the type of the objects for which there is a supply of
--- bodies, and for how much there is room
+-- what all parts of a host have in common: the trace with which they agree, the names of what it declares, the type of the objects for
+-- which there is a supply of bodies, and for how much there is room
 pub record Basis : Type 0 where
   pub trace : Trace
+  pub names : DeclaredNames
   pub ty : TypeId
   pub rooms : Rooms
 
 -- the basis of a host that is made for these terms
 abbrev pub basis_of : Terms → Basis
-basis_of terms = record { trace = open_trace terms.setup; ty = terms.ty; rooms = terms.rooms }
+basis_of terms = record { trace = open_trace terms.setup; names = terms.names; ty = terms.ty; rooms = terms.rooms }
 
 -- by these rooms the segment is there
 pub record HasSegment (rooms : List (Option ℕ)) (seg : ℕ) : Type 0 where

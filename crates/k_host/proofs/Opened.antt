@@ -24,6 +24,10 @@ use Rattle.k_host.specs.declared.errors.OpenError.TheVariants.{NoMemory, Bad, Te
 use Rattle.k_host.specs.Hosts.{HaveTailRoom, HostValue, IsFresh}
 use Rattle.k_host.specs.Opening.{HasRead, IsNotMade, IsNotRead}
 
+-- the setup in the second version
+abbrev pub second_of : Setup → Setup
+second_of setup = record setup { version = 2 }
+
 none_ends : EndsWithExit []
 none_ends [] op rest is exits = absurd (cc)
 none_ends (x ∷ first) op rest is exits = absurd (cc)
@@ -32,9 +36,9 @@ module _ (setup : Setup) where
   nothing : (p : ℕ) → p < length setup.procs.items → operations_of (open_trace setup) p ≡ []
   nothing p known = get_or-same (length setup.procs.items) p [] [] known
 
-  pub rules_open : (operations : List (List Op)) (order : List ℕ) → KeepsRules (trace_of setup operations order) → KeepsRules (open_trace setup)
+  pub rules_open : (operations : List (List Op)) (order : List ℕ) → KeepsRules (trace_of setup operations order) → KeepsRules (open_trace (second_of setup))
   rules_open operations order rules = record {
-    version = rules.version;
+    version = (omega arith, omega arith);
     ceiling = rules.ceiling;
     directory = rules.directory;
     directory_fits = rules.directory_fits;
@@ -54,9 +58,9 @@ module _ (setup : Setup) where
     };
     operations = record {
       each = length-replicate (length setup.procs.items) [];
-      in_range = λ p known. subst (λ ops. IsTrue (list_all (in_range (open_trace setup)) ops)) (sym (nothing p known)) refl;
+      in_range = λ p known. subst (λ ops. IsTrue (list_all (in_range (open_trace (second_of setup))) ops)) (sym (nothing p known)) refl;
       spelled = λ p known. subst (λ ops. IsTrue (list_all is_spelled ops)) (sym (nothing p known)) refl;
-      of_version = λ p known. subst (λ ops. IsTrue (list_all (is_of_version setup.version) ops)) (sym (nothing p known)) refl;
+      of_version = λ p known. subst (λ ops. IsTrue (list_all (is_of_version 2) ops)) (sym (nothing p known)) refl;
       ends = λ p known. subst EndsWithExit (sym (nothing p known)) none_ends;
       ordered = refl;
       counted = λ p known. ap length (sym (nothing p known));
@@ -66,10 +70,10 @@ module _ (setup : Setup) where
 
 -- the terms for which a host is read
 abbrev pub terms_of : ReadTrace → TypeId → ℕ → Rooms → Terms
-terms_of t ty bodies rooms = record { setup = t.setup; ty = ty; bodies = bodies; rooms = rooms }
+terms_of t ty bodies rooms = record { setup = second_of t.setup; names = t.names; ty = ty; bodies = bodies; rooms = rooms }
 
 module _ (bytes : Text) (t : ReadTrace) (ty : TypeId) (bodies : ℕ) (rooms : Rooms) (spelled : Spells bytes (meaning_of t)) where
-  pub read_made : (r : Result HostValue OpenError) → IfOk r (λ host. IsFresh (basis_of (terms_of t ty bodies rooms)) bodies host) → OnOk r (AreFit t.setup ty rooms) →
+  pub read_made : (r : Result HostValue OpenError) → IfOk r (λ host. IsFresh (basis_of (terms_of t ty bodies rooms)) bodies host) → OnOk r (AreFit (second_of t.setup) ty rooms) →
       IfOk r (λ host. HasRead bytes ty bodies rooms host)
   read_made (Ok host) fresh fit = record { said = meaning_of t; spelled = spelled; fit = record { known = fit.known; few = fit.few; enough = fit.enough }; fresh = fresh }
   read_made (Err why) fresh fit = tt

@@ -13,3 +13,4 @@ pub use Rattle.k_ends.specs.Doing
 pub use Rattle.k_mark.specs.Listening
 pub use Rattle.k_ends.specs.k_collect
 pub use Rattle.k_ends.specs.k_guests
+pub use Rattle.k_trace.specs as k_trace

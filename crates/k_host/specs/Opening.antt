@@ -19,9 +19,10 @@ IsNotMade terms (NoMemory refused) = Unit {0}
 IsNotMade terms (Bad line reason) = ⊥
 IsNotMade terms Unfit = ¬ (AreFit terms.setup terms.ty terms.rooms)
 
--- the trace that declares the same, in which no process has an operation
+-- the trace that declares the same in the second version, whatever version it names, and in which no process has an operation: each host
+-- has `kill` and `resize`
 abbrev pub idle_trace : Trace → Trace
-idle_trace trace = record trace { operations = replicate (process_count trace) []; order = [] }
+idle_trace trace = record trace { version = 2; operations = replicate (process_count trace) []; order = [] }
 
 -- what the trace declares has the type, and the rooms are few, and enough for its processes
 pub record AreFitFor (trace : Trace) (ty : TypeId) (rooms : Rooms) : Type 0 where
@@ -29,12 +30,12 @@ pub record AreFitFor (trace : Trace) (ty : TypeId) (rooms : Rooms) : Type 0 wher
   pub few : AreFew rooms
   pub enough : AreEnough (process_count trace) rooms
 
--- the bytes spell a trace that declares the type, and the host is one of what it declares, in which nothing has happened
+-- the bytes spell a trace that declares the type, and the host is one of what it declares, with its names, in which nothing has happened
 pub record HasRead (bytes : Text) (ty : TypeId) (bodies : ℕ) (rooms : Rooms) (h : HostValue) : Type 0 where
   pub said : NamedTrace
   pub spelled : Spells bytes said
   pub fit : AreFitFor said.trace ty rooms
-  pub fresh : IsFresh (record { trace = idle_trace said.trace; ty = ty; rooms = rooms }) bodies h
+  pub fresh : IsFresh (record { trace = idle_trace said.trace; names = said.names; ty = ty; rooms = rooms }) bodies h
 
 -- the bytes spell a trace that does not declare the type, or the rooms are not fit for it
 pub record SpellsUnfit (bytes : Text) (ty : TypeId) (rooms : Rooms) : Type 0 where

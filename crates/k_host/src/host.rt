@@ -15,7 +15,7 @@ use k_book::Book;
 use k_ends::{Guest, HostError, Rooms, Terms, are_fit, make_parts, operate_with};
 use k_kernel::KernelCell;
 use k_shared::SharedCell;
-use k_trace::{Trace, TraceError, read_trace};
+use k_trace::{SECOND_VERSION, Trace, TraceError, read_trace};
 use k_types::{Event, Op, Pid, TypeId};
 use std::alloc::Global;
 use std::marker::Model;
@@ -68,7 +68,8 @@ impl Host {
         })
     }
 
-    /// A host of the setup that the text of a trace declares. Operations that stand there are left out.
+    /// A host of the setup that the text of a trace declares, with its names. Operations that stand there are left out. The setup is of the
+    /// second version, whatever the text says, since each host has `kill` and `resize`.
     ///
     /// # Errors
     ///
@@ -88,14 +89,17 @@ impl Host {
             Ok(trace) => {
                 let Trace {
                     setup,
-                    names: _,
+                    names,
                     ops: _,
                     order: _,
                 } = trace;
+                let mut setup = setup;
+                setup.version = SECOND_VERSION;
                 Host::make(
                     alloc,
                     Terms {
                         setup,
+                        names,
                         ty,
                         bodies,
                         rooms,

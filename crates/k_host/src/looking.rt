@@ -2,6 +2,7 @@
 ghost use Rattle.std.specs.Prelude.{◌≡◌, IfOk, length, option_map, slice_get};
 ghost use Rattle.k_types.specs.Counted.{counted};
 ghost use Rattle.k_shares.specs.Sharers.{heap_number, lowest_orphan};
+ghost use Rattle.k_ends.specs.k_guests.Serving.{open_trace};
 ghost use Rattle.k_host.specs.Hosts.{HostServes, collection_of, event_of, unpublished_of};
 ghost use Rattle.k_host.specs.Twins.{first_twin};
 
@@ -9,7 +10,8 @@ use crate::host::Host;
 use crate::twin::Twin;
 use k_ends::Rooms;
 use k_io::NoMemory;
-use k_types::{CellPhase, Event, Name, Pid, SharedId};
+use k_trace::Names;
+use k_types::{CellPhase, Event, Name, Pid, Setup, SharedId};
 use std::alloc::Global;
 
 impl Host {
@@ -26,6 +28,22 @@ impl Host {
         ensures { result ≡ self.now.basis.rooms }
     {
         self.terms.rooms
+    }
+
+    /// The names of what is declared. Constant time.
+    pub fn names(&self) -> &Names
+        ensures { result.now ≡ self.now.basis.names }
+    {
+        let _book = &self.book;
+        &self.terms.names
+    }
+
+    /// What is declared. Constant time.
+    pub fn setup(&self) -> &Setup
+        ensures { open_trace result.now ≡ self.now.basis.trace }
+    {
+        let _book = &self.book;
+        &self.terms.setup
     }
 
     /// The number of processes, ended ones too. Constant time.

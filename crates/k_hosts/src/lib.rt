@@ -23,6 +23,8 @@ mod made_up;
 #[cfg(test)]
 mod opening;
 #[cfg(test)]
+mod printing;
+#[cfg(test)]
 mod refusals;
 #[cfg(test)]
 mod several;

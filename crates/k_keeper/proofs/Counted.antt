@@ -31,7 +31,7 @@ use Rattle.k_host.specs.k_guests.Objects.{gone_by, made_by, objects_after}
 use Rattle.k_host.specs.k_guests.Enough.{lesser}
 use Rattle.k_host.specs.k_guests.Serving.{Basis}
 use Rattle.k_host.proofs.Objects.{appended_counts, makes_none, published_counts}
-use Rattle.k_host.specs.Calls.{HasAbsorbedIn, HasCollectedIn, HasCollectedKernelIn, HasExitedIn, HasKilledIn, HasOperatedAs, HasOperatedIn}
+use Rattle.k_host.specs.Calls.{HasAbsorbedIn, HasCollectedIn, HasCollectedKernelIn, HasExitedIn, HasKilledIn, HasOperatedAs, HasOperatedIn, HasPublishedIn}
 use Rattle.k_host.specs.Doing.{IsKept as IsKeptInside, IsKeptAndPublished, IsRecorded}
 use Rattle.k_host.specs.HostError.{HostError}
 use Rattle.k_host.specs.Hosts.{HostServes, HostValue}
@@ -98,6 +98,12 @@ module _ (h n : HostValue) (serves : HostServes h) (serves_then : HostServes n) 
 
   agrees_of : (p : ℕ) (g : Guest) → slice_get h.guests p ≡ Some g → Agrees h.basis.trace (User g.cell.pid) g.cell.note g.cell.value
   agrees_of p g at = (serves.all.each p g at).agrees
+
+  -- what a process publishes makes and frees none
+  pub published_objects : (pid : Pid) → HasPublishedIn h n pid → objects_in n ≡ objects_in h
+  published_objects pid c =
+      ap (λ (b : Basis). objects_after b.trace n.book.journal.list) same ∙ ap (objects_after h.basis.trace) c.way.journal
+      ∙ published_counts h.basis.trace h.book.journal.list c.before.cell.pid c.before.cell.note c.before.cell.value (agrees_of pid.0 c.before c.there) (subst (IsLegalHistory h.basis.trace) c.way.journal legal)
 
   exited_counts : (pid : Pid) (event : Event) → HasExitedIn h n pid event → Counts h n event
   exited_counts pid event c =

@@ -1,7 +1,9 @@
 pub mod Sums
+pub mod Spelled
 pub mod Insides
 pub mod Kept
 pub mod Refused
 pub mod Absorbed
 pub mod Counted
 pub mod Opened
+pub mod Published

@@ -11,16 +11,23 @@ use Rattle.k_host.specs.k_guests.declared.rooms.Rooms.{Rooms}
 use Rattle.k_host.specs.k_guests.Enough.{lesser}
 use Rattle.k_host.specs.k_guests.Objects.{objects_after}
 use Rattle.k_types.specs.Trace.{process_count, segment_count}
-use Rattle.k_keeper.specs.Keeping.{IsKept, most_objects, needed_to_operate, objects_in, owed_by}
+use Rattle.k_types.specs.TraceRules.{KeepsRules}
+use Rattle.k_spell.specs.Spelled.{AreSpelled}
+use Rattle.k_keeper.specs.Keeping.{IsFit, IsKept, most_objects, needed_to_operate, objects_in, owed_by}
 use Rattle.k_keeper.specs.Kept.{HasFewEvents, HasOpened}
 use Rattle.k_keeper.proofs.Kept.{owed_settled}
 use Rattle.k_keeper.proofs.Refused.{keeper_of}
 use Rattle.k_keeper.proofs.Sums.{total_low}
 use Rattle.std.proofs.lemmas.Bool.{iff_false}
 
-fresh_kept : (basis : Basis) (bodies : ℕ) (h : HostValue) (left : ℕ) → IsFresh basis bodies h → left + length h.guests ≤ basis.rooms.events → IsKept h left
-fresh_kept basis bodies h left f enough = record {
+fresh_kept : (basis : Basis) (bodies : ℕ) (h : HostValue) (left : ℕ) → IsFit h.basis → IsFresh basis bodies h → left + length h.guests ≤ basis.rooms.events → IsKept h left
+fresh_kept basis bodies h left fit f enough = record {
   serves = f.serves;
+  fit = fit;
+  spelled = record {
+    journal = subst AreSpelled (sym f.journal) refl;
+    tails = λ k g at. subst AreSpelled (sym (f.guests k g at).settled) refl;
+  };
   idle = λ k g at lives. (f.guests k g at).idle;
   kernel_idle = f.kernel;
   room =
@@ -47,6 +54,25 @@ module _ (text : Text) (ty : TypeId) (bodies : ℕ) (rooms : Rooms) (h : HostVal
   pub same_objects : rooms.objects ≡ h.basis.rooms.objects
   same_objects = sym (ap (λ (b : Basis). b.rooms.objects) read.fresh.basis_is)
 
+  -- what is declared has the names of the text
+  fit : IsFit h.basis
+  fit =
+      let named = read.spelled.is_trace in
+      subst IsFit (sym read.fresh.basis_is) (record {
+        is_trace = record {
+          rules = subst (λ (b : Basis). KeepsRules b.trace) read.fresh.basis_is read.fresh.serves.rest.book.stands.keeps;
+          type_names = named.type_names;
+          limit_names = named.limit_names;
+          heap_names = named.heap_names;
+          types_named = named.types_named;
+          limits_named = named.limits_named;
+          procs_named = named.procs_named;
+          shared_named = named.shared_named;
+          has_root = named.has_root;
+        };
+        second = refl;
+      })
+
   -- there is the directory
   pub first_objects : objects_in h ≡ 1
   first_objects = ap (objects_after h.basis.trace) read.fresh.journal
@@ -61,7 +87,7 @@ module _ (text : Text) (ty : TypeId) (bodies : ℕ) (rooms : Rooms) (h : HostVal
 
   module _ (fits : needed_to_operate h + length h.guests ≤ rooms.events) (count : ℕ) (counted : count ≡ length h.guests) where
     pub read_kept : IsKept h (rooms.events - count)
-    read_kept = fresh_kept _ bodies h (rooms.events - count) read.fresh (omega (arith, fits, counted))
+    read_kept = fresh_kept _ bodies h (rooms.events - count) fit read.fresh (omega (arith, fits, counted))
 
     pub opened : (freed : List Name) (objects : ℕ) → HasOpened text ty bodies rooms (keeper_of h (rooms.events - count) freed objects 0)
     opened freed objects = record { read = read; all = omega (arith, fits, counted); enough = omega (arith, fits, counted); untaken = refl }

@@ -7,6 +7,7 @@ use Rattle.k_types.specs.declared.names.Name.{Name}
 use Rattle.k_types.specs.declared.names.Pid.{Pid}
 use Rattle.k_types.specs.declared.names.SharedId.{SharedId}
 use Rattle.k_types.specs.declared.op.Op.{Op}
+use Rattle.k_types.specs.TraceRules.{is_spelled}
 use Rattle.k_bounds.specs.Counts.{is_allocation}
 use Rattle.k_host.specs.k_guests.declared.guest.Guest.{Guest}
 use Rattle.k_host.specs.HostError.{HostError}
@@ -175,9 +176,9 @@ module _ (h : HostValue) (left : ℕ) (kept : IsKept h left) where
     kernel_kept n rest (Ok event) serves done same two is = kept_kernel h left kept n pid event rest alive serves done (omega (arith, two, is))
     kernel_kept n rest (Err why) serves done same two is = same_kept n rest same is
 
-    pub operate_kept : (n : HostValue) (op : Op) (rest : ℕ) (r : Result Event HostError) → HostServes n → IfOk r (λ event. HasOperatedIn h n pid op event) → OnErr r (n ≡ h) → 1 ≤ left → rest ≡ left_after left 1 r → IsKept n rest
-    operate_kept n op rest (Ok event) serves done same one is = kept_operated h left kept n pid op event rest alive serves done (omega (arith, one, is))
-    operate_kept n op rest (Err why) serves done same one is = same_kept n rest same is
+    pub operate_kept : (n : HostValue) (op : Op) (rest : ℕ) (r : Result Event HostError) → IsTrue (is_spelled op) → HostServes n → IfOk r (λ event. HasOperatedIn h n pid op event) → OnErr r (n ≡ h) → 1 ≤ left → rest ≡ left_after left 1 r → IsKept n rest
+    operate_kept n op rest (Ok event) spelled serves done same one is = kept_operated h left kept n pid op event rest alive spelled serves done (omega (arith, one, is))
+    operate_kept n op rest (Err why) spelled serves done same one is = same_kept n rest same is
 
 -- a process lives still where no process has changed
 pub alive_still : (h n : HostValue) (pid : Pid) → n.guests ≡ h.guests → IsAlive h pid → IsAlive n pid
@@ -194,7 +195,10 @@ module _ (h : HostValue) (left : ℕ) (freed : List Name) (objects taken : ℕ) 
 
   pub operation_full : (pid : Pid) (op : Op) (most : ℕ) → most ≡ most_objects h → (why : HostError) → Lacks Objects (IsTrue (is_allocation op) → objects < most) why → MayRefuseOperation (keeper_of h left freed objects taken) pid op why
   operation_full pid op most is why lacks =
-      inr (inr (record { error_is = lacks.error_is; fails = λ room. lacks.fails (λ asks. let left = room asks in omega (arith, left, is)) }))
+      inr (inr (inl (record { error_is = lacks.error_is; fails = λ room. lacks.fails (λ asks. let left = room asks in omega (arith, left, is)) })))
+
+  pub operation_unspelled : (pid : Pid) (op : Op) (why : HostError) → Lacks Unknown (IsTrue (is_spelled op)) why → MayRefuseOperation (keeper_of h left freed objects taken) pid op why
+  operation_unspelled pid op why lacks = inr (inr (inr lacks))
 
   pub operation_refused : (pid : Pid) (op : Op) (r : Result Event HostError) → IfErr r (λ why. MayRefuse h pid (CanNotOperateIn h op) why) → IfErr r (λ why. MayRefuseOperation (keeper_of h left freed objects taken) pid op why)
   operation_refused pid op (Ok event) why = tt

@@ -5,9 +5,12 @@ use Rattle.k_types.specs.declared.event.Event.{Event}
 use Rattle.k_types.specs.declared.names.Name.{Name}
 use Rattle.k_types.specs.Totals.{total}
 use Rattle.k_types.specs.Trace.{segment_count}
+use Rattle.k_spell.specs.Spelled.{AreSpelled}
 use Rattle.k_host.specs.k_guests.Enough.{greater, lesser}
 use Rattle.k_host.specs.k_guests.Objects.{gone_by, made_by, objects_after}
 use Rattle.k_host.specs.k_guests.declared.guest.Guest.{Guest}
+use Rattle.k_host.specs.k_guests.Serving.{Basis}
+use Rattle.k_host.specs.k_trace.Rules.{IsTrace}
 use Rattle.k_host.specs.HostError.{HostError}
 use Rattle.k_host.specs.Asked.{has_ended_of}
 use Rattle.k_host.specs.Hosts.{HostServes, HostValue}
@@ -27,9 +30,26 @@ IsIdle g = IsFalse (has_ended_of g) → g.cell.value.collection ≡ Idle
 abbrev pub AreIdle : HostValue → Type 0
 AreIdle h = (k : ℕ) (g : Guest) → slice_get h.guests k ≡ Some g → IsIdle g
 
--- the host serves, no collection is open, and beside what the ends of its processes need the journal has room for so many events
+-- what is declared is a trace of the second version, with its names
+pub record IsFit (basis : Basis) : Type 0 where
+  pub is_trace : IsTrace (record { names = basis.names; trace = basis.trace })
+  pub second : basis.trace.version ≡ 2
+
+-- a line of a trace can have each operation that the process has not published
+abbrev pub IsSpelledBy : Guest → Type 0
+IsSpelledBy g = AreSpelled g.cell.value.tail
+
+-- a line of a trace can have each operation that was done
+pub record AllSpelled (h : HostValue) : Type 0 where
+  pub journal : AreSpelled h.book.journal.list
+  pub tails : (k : ℕ) (g : Guest) → slice_get h.guests k ≡ Some g → IsSpelledBy g
+
+-- the host serves, what it declares has names, a line of a trace can have all that was done, no collection is open, and beside what the ends
+-- of its processes need the journal has room for so many events
 pub record IsKept (h : HostValue) (left : ℕ) : Type 0 where
   pub serves : HostServes h
+  pub fit : IsFit h.basis
+  pub spelled : AllSpelled h
   pub idle : AreIdle h
   pub kernel_idle : h.kernel.value.collection ≡ Idle
   pub room : spent h + left ≤ h.basis.rooms.events

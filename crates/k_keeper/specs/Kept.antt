@@ -6,13 +6,14 @@ use Rattle.k_types.specs.declared.names.Pid.{Pid}
 use Rattle.k_types.specs.declared.names.SharedId.{SharedId}
 use Rattle.k_types.specs.declared.names.TypeId.{TypeId}
 use Rattle.k_types.specs.declared.op.Op.{Op}
+use Rattle.k_types.specs.TraceRules.{is_spelled}
 use Rattle.k_shares.specs.Sharers.{lowest_orphan}
 use Rattle.k_words.specs.Words.{Text}
 use Rattle.k_bounds.specs.Counts.{is_allocation}
 use Rattle.k_host.specs.k_guests.declared.guest.Guest.{Guest}
 use Rattle.k_host.specs.k_guests.declared.rooms.Rooms.{Rooms}
 use Rattle.k_host.specs.HostError.{HostError}
-use Rattle.k_host.specs.HostError.TheVariants.{Ended, Objects, Reserved}
+use Rattle.k_host.specs.HostError.TheVariants.{Ended, Objects, Reserved, Unknown}
 use Rattle.k_host.specs.CallsRefusals.{Lacks}
 use Rattle.k_host.specs.declared.errors.OpenError.{OpenError}
 use Rattle.k_host.specs.declared.errors.OpenError.TheVariants.{Terms}
@@ -41,12 +42,14 @@ IsReserved k needed why = Lacks Reserved (needed ≤ k.left) why
 abbrev pub HasObjectLeft : KeeperValue → Op → Type 0
 HasObjectLeft k op = IsTrue (is_allocation op) → k.objects < most_objects k.host
 
--- an operation is refused: for the host's reasons, since no more is left than the reserve, or since the host can have no object more
+-- an operation is refused: for the host's reasons, since no more is left than the reserve, since the host can have no object more, or since
+-- no line of a trace can have the operation
 abbrev pub MayRefuseOperation : KeeperValue → Pid → Op → HostError → Type 0
 MayRefuseOperation k pid op why =
     MayRefuse k.host pid (CanNotOperateIn k.host op) why
     ⊎ IsReserved k (needed_to_operate k.host) why
     ⊎ Lacks Objects (HasObjectLeft k op) why
+    ⊎ Lacks Unknown (IsTrue (is_spelled op)) why
 
 -- a collection of a process's heap is refused
 abbrev pub MayRefuseCollection : KeeperValue → Pid → HostError → Type 0

@@ -1,5 +1,6 @@
 pub mod Keeping
 pub mod Kept
+pub mod Publishing
 pub use Rattle.k_host.specs.Asked
 pub use Rattle.k_host.specs.k_guests.declared.guest.Guest
 pub use Rattle.k_host.specs.HostError

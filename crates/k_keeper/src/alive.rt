@@ -1,10 +1,12 @@
 //! Whether a call can be done.
 ghost use Rattle.std.specs.Prelude.{◌≤◌, ◌⊎◌, ◌↔◌, IfErr, IsTrue, OnOk};
+ghost use Rattle.k_types.specs.TraceRules.{is_spelled};
 ghost use Rattle.k_host.specs.CallsRefusals.{Lacks};
 ghost use Rattle.k_keeper.specs.Kept.{IsAlive, IsGone};
 
 use k_host::{Host, HostError};
-use k_types::Pid;
+use k_spell::is_spelled;
+use k_types::{Op, Pid};
 
 /// Tells that the process is one of the host's and lives. Constant time.
 pub(crate) fn alive(host: &Host, pid: Pid) -> Result<(), HostError>
@@ -45,4 +47,15 @@ pub(crate) fn ready(host: &Host, pid: Pid, left: u32, needed: u64) -> Result<(),
 {
     alive(host, pid)?;
     spared(left, needed)
+}
+
+/// Tells that a line of a trace can have the operation. So whatever the processes ask for, all that the host does can be printed.
+pub(crate) fn spelled(op: &Op) -> Result<(), HostError>
+    ensures ok { OnOk result (IsTrue (is_spelled op.now)) }
+    ensures why { IfErr result (λ why. Lacks HostError.Unknown (IsTrue (is_spelled op.now)) why) }
+{
+    if !is_spelled(op) {
+        return Err(HostError::Unknown);
+    }
+    Ok(())
 }

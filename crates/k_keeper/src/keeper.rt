@@ -3,10 +3,12 @@ ghost use Rattle.std.specs.Prelude.{◌≡◌, ◌+◌, ◌≤◌, [], IfErr, If
 ghost use Rattle.k_host.specs.Whole.{AreFreedLast};
 ghost use Rattle.k_host.specs.Calls.{HasAbsorbedIn, HasCollectedIn, HasExitedIn, HasOperatedIn};
 ghost use Rattle.k_keeper.specs.Keeping.{IsKept, needed_by_the_kernel, needed_to_operate, objects_in};
+ghost use Rattle.k_keeper.specs.Publishing.{HasPublishedEach};
 ghost use Rattle.k_keeper.specs.Kept.{HasCollectedAll, HasOpened, HasTaken, HasTakenNone, IsGone, IsNotOpened, MayRefuseCollection, MayRefuseKernel, MayRefuseOperation, MayRefuseToAbsorb};
 
 use crate::absorbing::absorb_all;
-use crate::alive::{alive, ready, spared};
+use crate::alive::{alive, ready, spared, spelled};
+use crate::publishing::publish_each;
 use crate::rooms::{
     fits, has_object_left, left_after, most_objects, needed_by_the_kernel, needed_to_absorb,
     needed_to_collect, needed_to_operate, objects_then,
@@ -137,8 +139,9 @@ impl Keeper {
     ///
     /// # Errors
     ///
-    /// Each changes nothing: those of `Host::operate`, `Reserved` where no more is left than the reserve, and `Objects` also where the host
-    /// has as many objects as all its heaps have room for.
+    /// Each changes nothing: those of `Host::operate`, `Reserved` where no more is left than the reserve, `Objects` also where the host
+    /// has as many objects as all its heaps have room for, and `Unknown` also for a field above 15, which no object has and no line of a
+    /// trace spells. So all that a keeper has done can be printed.
     #[inline(always)]
     pub fn operate(&mut self, pid: Pid, op: &Op) -> Result<Event, HostError>
         ensures done { IfOk result (λ event. HasOperatedIn self.old.host self.new.host pid op.now event) }
@@ -151,6 +154,7 @@ impl Keeper {
     {
         ready(&self.host, pid, self.left, needed_to_operate(&self.host))?;
         has_object_left(self.objects, self.most, op)?;
+        spelled(op)?;
         let came = self.host.operate(pid, op);
         self.host.serves();
         self.left = left_after(self.left, 1, &came);
@@ -219,6 +223,15 @@ impl Keeper {
         let came = self.host.exit(pid);
         self.host.serves();
         came
+    }
+
+    /// Publishes what each process did inside its heap, in the order of their numbers: the journal has all that was done then. It takes
+    /// nothing of what is left, and can't fail. Time goes with what is published, and with the number of processes.
+    pub fn publish(&mut self)
+        ensures published { HasPublishedEach self.old.host self.new.host }
+        ensures rest { self.new ≡ record self.old { host = self.new.host } }
+    {
+        publish_each(&mut self.host);
     }
 
     /// Absorbs the shared heap, an orphan of which no other has a lower number: it becomes the kernel's.

@@ -9,6 +9,7 @@
 mod absorbing;
 mod alive;
 mod keeper;
+mod publishing;
 mod rooms;
 mod taking;
 

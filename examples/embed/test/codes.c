@@ -145,7 +145,9 @@ static void faults(void) {
     FAULT(kaffe_get(h, GUEST, 0, 2), KAFFE_NULL);
     FAULT(kaffe_new(h, GUEST, 0, NODE), KAFFE_DONE);
     FAULT(kaffe_get(h, GUEST, 0, 3), KAFFE_NO_FIELD);
-    FAULT(kaffe_get(h, GUEST, 0, 4294967295u), KAFFE_NO_FIELD);
+    FAULT(kaffe_get(h, GUEST, 0, 15), KAFFE_NO_FIELD);
+    STATUS(kaffe_get(h, GUEST, 0, 16), KAFFE_UNKNOWN); /* no object has it, and no line of a trace spells it */
+    STATUS(kaffe_put(h, GUEST, 0, 4294967295u, 7), KAFFE_UNKNOWN);
     FAULT(kaffe_get(h, GUEST, 0, 0), KAFFE_WRONG_KIND);
     FAULT(kaffe_load(h, GUEST, 1, 0, 2), KAFFE_WRONG_KIND);
     FAULT(kaffe_put(h, GUEST, 0, 2, 7), KAFFE_DONE);
@@ -363,7 +365,7 @@ static void events(void) {
         {KAFFE_CALL_STORE, GUEST, 1, 0, 3, 1, 0, 0, 0, 0},     {KAFFE_CALL_LOAD, GUEST, 1, 0, 4, 1, 0, 0, 0, 0},
         {KAFFE_CALL_MOVE, GUEST, 0, 0, 5, 4, 0, 0, 0, 0},      {KAFFE_CALL_CLEAR, GUEST, 0, 0, 5, 0, 0, 0, 0, 0},
         {KAFFE_CALL_DIR, GUEST, 0, 0, 6, 0, 0, 0, 0, 0},       {KAFFE_CALL_PUT, GUEST, 2, 0, 0, 1, 0, 0, 0, UINT64_MAX},
-        {KAFFE_CALL_GET, GUEST, 2, 0, 0, 1, 0, 0, 0, 0},       {KAFFE_CALL_GET, GUEST, UINT32_MAX, 0, 0, 2, 0, 0, 0, 0},
+        {KAFFE_CALL_GET, GUEST, 2, 0, 0, 1, 0, 0, 0, 0},       {KAFFE_CALL_GET, GUEST, 15, 0, 0, 2, 0, 0, 0, 0},
         {KAFFE_CALL_FREEZE, GUEST, TWO, 0, 3, 0, 0, 0, 0, 0},  {KAFFE_CALL_ATTACH, OTHER, TWO, 0, 15, 0, 0, 0, 0, 0},
         {KAFFE_CALL_KILL_BY, GUEST, POOR, 0, 0, 0, 0, 0, 0, 0}, {KAFFE_CALL_RESIZE, GUEST, LOW, 0, 0, 0, 0, 0, 0, 77},
         {KAFFE_CALL_COLLECT, GUEST, 0, 0, 0, 0, 0, 0, 0, 0},   {KAFFE_CALL_KILL, GUEST, 0, 0, 0, 0, 0, 0, 0, 0},

@@ -12,6 +12,7 @@ from codes import (UNKNOWN, ENDED, ORPHAN, NO_CALL, RESERVED, OBJECTS, ITEMS, NA
 
 KERNEL = ("kernel", 0)
 MAXIMUM_BELOW = 1 << 40
+MOST_FIELDS = 16
 
 
 class Refused(Exception):
@@ -364,6 +365,8 @@ class Host:
             return False
         if q.call == SNEW and q.to >= len(self.types):
             return False
+        if q.call in (STORE, LOAD, PUT, GET):
+            return q.at < MOST_FIELDS
         if q.call == KILL_BY:
             return q.at < len(self.procs)
         if q.call == RESIZE:

@@ -5,7 +5,7 @@ use Rattle.k_host.specs.Calls.{HasOperatedIn}
 use Rattle.k_keeper.specs.Keeping.{KeeperValue, needed_to_operate}
 use Rattle.k_keeper.specs.Kept.{MayRefuseOperation}
 use Rattle.k_keeper.proofs.Counted.{can_count, most_low, most_same, operate_told, then_counted, then_listed}
-use Rattle.k_keeper.proofs.Refused.{keeper_of, leaves_behind, operate_basis, operate_kept, operation_full, still, operation_unready, takes, unchanged, operation_refused}
+use Rattle.k_keeper.proofs.Refused.{keeper_of, leaves_behind, operate_basis, operate_kept, operation_full, still, operation_unready, operation_unspelled, takes, unchanged, operation_refused}
 use Rattle.k_keeper.proofs.keeper.Keeper.operate.Goals as goal
 
 pub returns-in_err-ready-clause-why : goal.returns-in_err-ready-clause-why
@@ -20,6 +20,12 @@ returns-in_err-has_object_left-clause-why c =
     (subst (λ (old : KeeperValue). MayRefuseOperation old c.args.pid c.args.op.now c.in_err-has_object_left.field-0.0) c.self.view_is
     (operation_full c.self.inside.host c.self.inside.left c.self.inside.freed.names c.self.inside.objects c.self.inside.taken c.args.pid c.args.op.now c.self.inside.most c.self.invariant.most c.in_err-has_object_left.field-0.0 c.in_err-has_object_left.ensures.why))
 
+pub returns-in_err-spelled-clause-why : goal.returns-in_err-spelled-clause-why
+returns-in_err-spelled-clause-why c =
+    handed_on (MayRefuseOperation c.args.self.now c.args.pid c.args.op.now) c.from_residual-in_err-spelled.result c.in_err-spelled.field-0.0 c.from_residual-in_err-spelled.ensures.1
+    (subst (λ (old : KeeperValue). MayRefuseOperation old c.args.pid c.args.op.now c.in_err-spelled.field-0.0) c.self.view_is
+    (operation_unspelled c.self.inside.host c.self.inside.left c.self.inside.freed.names c.self.inside.objects c.self.inside.taken c.args.pid c.args.op.now c.in_err-spelled.field-0.0 c.in_err-spelled.ensures.why))
+
 pub objects_then-self-inside-requires : goal.objects_then-self-inside-requires
 objects_then-self-inside-requires c =
     can_count c.self.inside.host c.operate-came.new.self c.self.inside.objects c.self.inside.most c.self.invariant.counted c.self.invariant.listed (most_low c.self.inside.host c.self.inside.most c.self.invariant.most) c.operate-came.result
@@ -32,7 +38,7 @@ left_after-self-inside-requires c = let enough = c.in_ok-ready.ensures.ok.1 in l
 pub invariant_of-self : goal.invariant_of-self
 invariant_of-self c = record {
   kept =
-      operate_kept c.self.inside.host c.self.inside.left c.self.invariant.kept c.args.pid c.in_ok-ready.ensures.ok.0 c.operate-came.new.self c.args.op.now c.left_after-self-inside.result c.operate-came.result c.serves.ensures c.operate-came.ensures.done c.operate-came.ensures.same
+      operate_kept c.self.inside.host c.self.inside.left c.self.invariant.kept c.args.pid c.in_ok-ready.ensures.ok.0 c.operate-came.new.self c.args.op.now c.left_after-self-inside.result c.operate-came.result c.in_ok-spelled.ensures.ok c.serves.ensures c.operate-came.ensures.done c.operate-came.ensures.same
       (let enough = c.in_ok-ready.ensures.ok.1 in let needed = c.needed_to_operate.ensures in omega (arith, enough, needed)) c.left_after-self-inside.ensures;
   counted =
       then_counted c.self.inside.host c.operate-came.new.self c.self.inside.objects c.self.inside.most c.self.invariant.counted c.self.invariant.listed (most_low c.self.inside.host c.self.inside.most c.self.invariant.most) c.operate-came.result
