@@ -1,0 +1,5 @@
+pub mod Hosted
+pub mod Meeting
+pub mod Kept
+pub mod Splits
+pub mod Together

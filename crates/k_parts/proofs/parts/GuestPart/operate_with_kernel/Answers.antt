@@ -1,0 +1,83 @@
+use Rattle.std.proofs.Common.{refl, sym, ◌∙◌}
+use Rattle.std.specs.Arc.{arc_value}
+use Rattle.std.proofs.lemmas.Bool.{false≢true}
+use Rattle.k_book.specs.Books.{BookRecord}
+use Rattle.k_ends.specs.Apart.{CanNotDoWithKernel, HasComeWithKernel}
+use Rattle.k_parts.specs.Parts.{book_seen, guest_seen, kernel_seen}
+use Rattle.k_parts.proofs.Hosted.{same_three}
+use Rattle.k_parts.proofs.Kept.{came_with_kernel}
+use Rattle.k_parts.proofs.Meeting.{book_changed, book_held, done_of_three, guest_held, kernel_held, lent_first, lent_with, rests_again, serves_lent, serves_on, stays, was_one, why_of_three}
+use Rattle.k_parts.proofs.parts.GuestPart.operate_with_kernel.Goals as goal
+
+pub try_with_kernel-requires-clause-guest : goal.try_with_kernel-requires-clause-guest
+try_with_kernel-requires-clause-guest g c =
+    let own = lent_first c.deref-2.ensures (guest_held (arc_value c.self.inside.head) c.self.inside.guest c.self.view_is c.self.invariant) in
+    let book = lent_with own (book_held (arc_value c.book.inside.head) c.book.inside.book c.book.inside.freed c.book.view_is c.book.invariant) c.requires.book (c.are_three.ensures.0 c.if-not-are_three.false).1 in
+    (serves_on own _ (serves_lent book)).serves
+
+pub try_with_kernel-requires-clause-kernel : goal.try_with_kernel-requires-clause-kernel
+try_with_kernel-requires-clause-kernel g c =
+    let own = lent_first c.deref-2.ensures (guest_held (arc_value c.self.inside.head) c.self.inside.guest c.self.view_is c.self.invariant) in
+    let kernel = lent_with own (kernel_held (arc_value c.kernel.inside.head) c.kernel.inside.kernel c.kernel.view_is c.kernel.invariant) c.requires.kernel (c.are_three.ensures.0 c.if-not-are_three.false).0 in
+    let book = lent_with own (book_held (arc_value c.book.inside.head) c.book.inside.book c.book.inside.freed c.book.view_is c.book.invariant) c.requires.book (c.are_three.ensures.0 c.if-not-are_three.false).1 in
+    serves_on kernel _ (serves_lent book)
+
+pub try_with_kernel-requires-clause-book : goal.try_with_kernel-requires-clause-book
+try_with_kernel-requires-clause-book g c =
+    let own = lent_first c.deref-2.ensures (guest_held (arc_value c.self.inside.head) c.self.inside.guest c.self.view_is c.self.invariant) in
+    let book = lent_with own (book_held (arc_value c.book.inside.head) c.book.inside.book c.book.inside.freed c.book.view_is c.book.invariant) c.requires.book (c.are_three.ensures.0 c.if-not-are_three.false).1 in
+    (serves_lent book).serves
+
+pub try_with_kernel-requires-clause-few : goal.try_with_kernel-requires-clause-few
+try_with_kernel-requires-clause-few g c =
+    let own = lent_first c.deref-2.ensures (guest_held (arc_value c.self.inside.head) c.self.inside.guest c.self.view_is c.self.invariant) in
+    (serves_lent own).few
+
+pub invariant_of-self : goal.invariant_of-self
+invariant_of-self g c =
+    let own = lent_first c.deref-2.ensures (guest_held (arc_value c.self.inside.head) c.self.inside.guest c.self.view_is c.self.invariant) in
+    let kernel = lent_with own (kernel_held (arc_value c.kernel.inside.head) c.kernel.inside.kernel c.kernel.view_is c.kernel.invariant) c.requires.kernel (c.are_three.ensures.0 c.if-not-are_three.false).0 in
+    let book = lent_with own (book_held (arc_value c.book.inside.head) c.book.inside.book c.book.inside.freed c.book.view_is c.book.invariant) c.requires.book (c.are_three.ensures.0 c.if-not-are_three.false).1 in
+    let now = came_with_kernel (serves_lent own) (serves_lent book) c.try_with_kernel.new.guest c.try_with_kernel.new.book (serves_lent kernel) c.try_with_kernel.new.kernel c.args.op.now c.try_with_kernel.result c.try_with_kernel.ensures.done c.try_with_kernel.ensures.same in
+    rests_again own _ c.try_with_kernel.new.guest now.0.guest.serves.table now.0.guest
+
+pub invariant_of-kernel : goal.invariant_of-kernel
+invariant_of-kernel g c =
+    let own = lent_first c.deref-2.ensures (guest_held (arc_value c.self.inside.head) c.self.inside.guest c.self.view_is c.self.invariant) in
+    let kernel = lent_with own (kernel_held (arc_value c.kernel.inside.head) c.kernel.inside.kernel c.kernel.view_is c.kernel.invariant) c.requires.kernel (c.are_three.ensures.0 c.if-not-are_three.false).0 in
+    let book = lent_with own (book_held (arc_value c.book.inside.head) c.book.inside.book c.book.inside.freed c.book.view_is c.book.invariant) c.requires.book (c.are_three.ensures.0 c.if-not-are_three.false).1 in
+    let now = came_with_kernel (serves_lent own) (serves_lent book) c.try_with_kernel.new.guest c.try_with_kernel.new.book (serves_lent kernel) c.try_with_kernel.new.kernel c.args.op.now c.try_with_kernel.result c.try_with_kernel.ensures.done c.try_with_kernel.ensures.same in
+    rests_again kernel _ c.try_with_kernel.new.kernel now.1.table now.1
+
+pub invariant_of-book : goal.invariant_of-book
+invariant_of-book g c =
+    let own = lent_first c.deref-2.ensures (guest_held (arc_value c.self.inside.head) c.self.inside.guest c.self.view_is c.self.invariant) in
+    let kernel = lent_with own (kernel_held (arc_value c.kernel.inside.head) c.kernel.inside.kernel c.kernel.view_is c.kernel.invariant) c.requires.kernel (c.are_three.ensures.0 c.if-not-are_three.false).0 in
+    let book = lent_with own (book_held (arc_value c.book.inside.head) c.book.inside.book c.book.inside.freed c.book.view_is c.book.invariant) c.requires.book (c.are_three.ensures.0 c.if-not-are_three.false).1 in
+    let now = came_with_kernel (serves_lent own) (serves_lent book) c.try_with_kernel.new.guest c.try_with_kernel.new.book (serves_lent kernel) c.try_with_kernel.new.kernel c.args.op.now c.try_with_kernel.result c.try_with_kernel.ensures.done c.try_with_kernel.ensures.same in
+    rests_again book _ c.try_with_kernel.new.book now.0.book.table_is now.0.book
+
+pub returns-then-not-are_three : goal.returns-then-not-are_three
+returns-then-not-are_three g c = record {
+  done = tt;
+  home = refl;
+  other_home = refl;
+  rest = refl;
+  same = (refl, refl, refl);
+  why = λ one. false≢true (sym c.if-not-are_three.true ∙ c.are_three.ensures.1 (was_one (guest_held (arc_value c.self.inside.head) c.self.inside.guest c.self.view_is c.self.invariant) (kernel_held (arc_value c.kernel.inside.head) c.kernel.inside.kernel c.kernel.view_is c.kernel.invariant) one.0, was_one (guest_held (arc_value c.self.inside.head) c.self.inside.guest c.self.view_is c.self.invariant) (book_held (arc_value c.book.inside.head) c.book.inside.book c.book.inside.freed c.book.view_is c.book.invariant) one.1));
+}
+
+pub returns : goal.returns
+returns g c =
+    let own = lent_first c.deref-2.ensures (guest_held (arc_value c.self.inside.head) c.self.inside.guest c.self.view_is c.self.invariant) in
+    let kernel = lent_with own (kernel_held (arc_value c.kernel.inside.head) c.kernel.inside.kernel c.kernel.view_is c.kernel.invariant) c.requires.kernel (c.are_three.ensures.0 c.if-not-are_three.false).0 in
+    let book = lent_with own (book_held (arc_value c.book.inside.head) c.book.inside.book c.book.inside.freed c.book.view_is c.book.invariant) c.requires.book (c.are_three.ensures.0 c.if-not-are_three.false).1 in
+    let now = came_with_kernel (serves_lent own) (serves_lent book) c.try_with_kernel.new.guest c.try_with_kernel.new.book (serves_lent kernel) c.try_with_kernel.new.kernel c.args.op.now c.try_with_kernel.result c.try_with_kernel.ensures.done c.try_with_kernel.ensures.same in
+    record {
+      done = done_of_three own kernel book c.try_with_kernel.result c.hosted.ensures (λ basis x k b came. HasComeWithKernel basis c.args.op.now x c.try_with_kernel.new.guest k c.try_with_kernel.new.kernel b c.try_with_kernel.new.book came) c.try_with_kernel.ensures.done;
+      home = stays own _ now.0.guest.serves.table;
+      other_home = stays kernel _ now.1.table;
+      rest = book_changed (arc_value c.book.inside.head) c.book.inside.book c.book.inside.freed c.book.view_is c.try_with_kernel.new.book (stays book _ now.0.book.table_is);
+      same = same_three c.try_with_kernel.result c.hosted.ensures (guest_seen (arc_value c.self.inside.head)) (kernel_seen (arc_value c.kernel.inside.head)) (λ (b : BookRecord). book_seen (arc_value c.book.inside.head) b c.book.inside.freed) c.try_with_kernel.new.guest c.try_with_kernel.new.kernel c.try_with_kernel.new.book c.try_with_kernel.ensures.same c.self.view_is c.kernel.view_is c.book.view_is;
+      why = why_of_three own kernel book c.try_with_kernel.result c.hosted.ensures (λ basis x k b e. CanNotDoWithKernel basis k b c.args.op.now x e) (c.are_three.ensures.0 c.if-not-are_three.false) c.try_with_kernel.ensures.why;
+    }
