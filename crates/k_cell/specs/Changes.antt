@@ -1,8 +1,9 @@
 -- What calls change of a cell, as functions of its value.
-use Rattle.std.specs.Prelude.{◌≡◌, ℕ, Bool, ◌+◌, ◌==◌, ◌&&◌, ◌||◌, not, [], ◌∷◌, ◌++◌, map, filter, length, slice_index_or, slice_set, Some, None, IsTrue, if◌then◌else◌}
+use Rattle.std.specs.Prelude.{◌≡◌, ℕ, Bool, ◌+◌, ◌==◌, ◌&&◌, ◌||◌, not, [], ◌∷◌, ◌++◌, map, filter, length, slice_index_or, slice_set, Option, Some, None, IsTrue, if◌then◌else◌}
 use Rattle.k_areas.specs.k_types.declared.names.Name.{Name}
 use Rattle.k_areas.specs.k_types.Agree.{CellValue}
 use Rattle.k_areas.specs.k_types.Names.{name_eq, name_among}
+use Rattle.k_areas.specs.k_types.Replies.{is_ref}
 use Rattle.k_areas.specs.k_types.State.{Content, has, refers_in}
 use Rattle.k_areas.specs.k_types.Updates.{object_after_write, with_object}
 use Rattle.k_areas.specs.k_base.Distinct.{AreDistinctNames}
@@ -25,6 +26,16 @@ with_body seg body v = record v {
 -- the field of the object holds that
 abbrev pub with_field : Name → ℕ → Content → CellValue → CellValue
 with_field n i content v = record v { objects = map (object_after_write n i content) v.objects }
+
+-- the field of the object, which held that where there is such a field, holds the content now if it is there and a reference
+abbrev pub stored_among : Option Content → Name → ℕ → Content → CellValue → CellValue
+stored_among None n i content v = v
+stored_among (Some held) n i content v = if is_ref held then with_field n i content v else v
+
+-- the same if it is there and an integer
+abbrev pub put_among : Option Content → Name → ℕ → Content → CellValue → CellValue
+put_among None n i content v = v
+put_among (Some held) n i content v = if is_ref held then v else with_field n i content v
 
 -- the cell has an exit item to that object
 abbrev pub with_exit_item : Name → CellValue → CellValue

@@ -1,11 +1,14 @@
 -- What changes of one segment make of an area.
-use Rattle.std.specs.Prelude.{◌≡◌, ◌⊎◌, ℕ, ◌<◌, List, length, slice_set, Some}
+use Rattle.std.specs.Prelude.{◌≡◌, ◌⊎◌, ℕ, ◌<◌, IfNone, IfSome, IsFalse, IsTrue, List, Option, length, option_map, slice_get, slice_set, Some}
 use Rattle.k_areas.specs.k_types.declared.names.Name.{Name}
 use Rattle.k_areas.specs.k_types.declared.names.Link.{Link}
+use Rattle.k_areas.specs.k_types.Replies.{is_ref}
 use Rattle.k_areas.specs.k_types.State.{Content}
-use Rattle.k_areas.specs.k_space.Objects.{BodyValue, HasInt, HasRef}
+use Rattle.k_areas.specs.k_space.Objects.{BodyValue, HasInt, HasRef, content_of}
+use Rattle.k_areas.specs.k_space.declared.body.Stored.{Stored}
 use Rattle.k_areas.specs.k_space.Segments.{HasRoom, Row, SegmentValue, made, placed}
 use Rattle.k_areas.specs.k_space.Areas.{AreaValue, row_of_name, segment_at, with_row_of, with_segment}
+use Rattle.k_cell.specs.Looks.{row_fields}
 
 -- the segment of that number is there and has room for one more object, which it has where fewer serials were given
 pub record CanPlace (segments : List SegmentValue) (number : ℕ) : Type 0 where
@@ -39,3 +42,17 @@ pub record IsWrittenIn (old new : AreaValue) (n : Name) (field : ℕ) (content :
   pub row : Row
   pub there : row_of_name old.segments n ≡ Some row
   pub written : new ≡ with_row_of old n (Some (record row { fields = slice_set row.fields field content }))
+
+-- the object's field was looked up, and holds the content now if it is there and a reference; else nothing has changed
+pub record HasStored (old new : AreaValue) (n : Name) (field : ℕ) (content : Content) (found : Option Stored) : Type 0 where
+  pub found_is : option_map content_of found ≡ slice_get (row_fields (row_of_name old.segments n)) field
+  pub written : IfSome found (λ held. IsTrue (is_ref (content_of held)) → IsWrittenIn old new n field content)
+  pub other : IfSome found (λ held. IsFalse (is_ref (content_of held)) → new ≡ old)
+  pub none : IfNone found (new ≡ old)
+
+-- the same of an integer
+pub record HasPut (old new : AreaValue) (n : Name) (field : ℕ) (content : Content) (found : Option Stored) : Type 0 where
+  pub found_is : option_map content_of found ≡ slice_get (row_fields (row_of_name old.segments n)) field
+  pub written : IfSome found (λ held. IsFalse (is_ref (content_of held)) → IsWrittenIn old new n field content)
+  pub other : IfSome found (λ held. IsTrue (is_ref (content_of held)) → new ≡ old)
+  pub none : IfNone found (new ≡ old)

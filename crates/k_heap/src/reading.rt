@@ -3,7 +3,7 @@ ghost use Rattle.std.specs.Prelude.{◌≡◌, ◌↔◌, IsTrue, ◌<◌, ◌�
 ghost use Rattle.std.specs.List.{list_any};
 ghost use Rattle.k_types.specs.Names.{name_among, name_of};
 ghost use Rattle.k_types.specs.Owners.{object_bytes};
-ghost use Rattle.k_types.specs.State.{has};
+ghost use Rattle.k_types.specs.State.{fields_of, has, object_at};
 ghost use Rattle.k_types.specs.Totals.{total};
 ghost use Rattle.k_cell.specs.k_base.Distinct.{AreDistinctNames};
 ghost use Rattle.k_cell.specs.k_frame.PartUpdates.{done_in, held_in};
@@ -87,6 +87,13 @@ impl HeapCell {
         ensures { content_of result ≡ field_among self.now.value.objects (name_of at) field }
     {
         self.holdings.field(at, field)
+    }
+
+    /// What the field of the object holds; none where there is no such field. Constant time.
+    pub fn found(&self, at: Link, field: u32) -> Option<Stored>
+        ensures { option_map content_of result ≡ slice_get (fields_of (object_at self.now.value.objects (name_of at))) field }
+    {
+        self.holdings.found(at, field)
     }
 
     /// The object's type; none where there is no such object. Constant time.

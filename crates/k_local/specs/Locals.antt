@@ -33,6 +33,16 @@ abbrev pub field_answer : CellValue → ℕ → Name → ℕ → Bool → Option
 field_answer v p x i of_kind answer =
     if x.seg.0 == p + 1 then (if nat_le (field_count_among v.objects x) i then Some (Refused NoField) else (if of_kind then answer else Some (Refused WrongKind))) else None
 
+-- the answer to an access to a field that holds that, if it is there and a reference, by what is answered then
+abbrev pub ref_answer : Option Content → Option Reply → Option Reply
+ref_answer None answer = Some (Refused NoField)
+ref_answer (Some held) answer = if is_ref held then answer else Some (Refused WrongKind)
+
+-- the same of an integer
+abbrev pub int_answer : Option Content → Option Reply → Option Reply
+int_answer None answer = Some (Refused NoField)
+int_answer (Some held) answer = if is_ref held then Some (Refused WrongKind) else answer
+
 -- the answer to a store of the value through what the base register holds
 abbrev pub store_answer : CellValue → ℕ → Option Name → ℕ → Option Name → Option Reply
 store_answer v p None i value = Some (Refused Null)
