@@ -4,8 +4,8 @@
    is a guest, with a heap and 16 registers, which are its roots. docs/EMBEDDING.md says what a caller owes and what each code means.
 
    Every call answers, and none aborts. A call whose status is not KAFFE_OK has changed nothing.
-   After kaffe_open an allocation alone takes memory, and none where the supply of its process has a body of the type. What a host takes at
-   its opening goes with its rooms, and not with how long it runs. */
+   After kaffe_open an allocation and kaffe_print alone take memory, an allocation none where the supply of its process has a body of the type.
+   What a host takes at its opening goes with its rooms, and not with how long it runs. */
 #ifndef KAFFE_H
 #define KAFFE_H
 #include <stddef.h>
@@ -34,7 +34,11 @@ enum kaffe_status {
     KAFFE_NO_HOST = 9,  /* no host could be made: see kaffe_make */
     KAFFE_RESERVED = 10, /* no more events are left than are kept for collections; kaffe_kill asks for none of them */
     KAFFE_OBJECTS = 11, /* as many objects live in the heap as it has room for: collect it, or the kernel heap after kaffe_knew */
-    KAFFE_ITEMS = 12    /* a reference that leads out of its heap may need an exit item or an entry item, and no more is left of these */
+    KAFFE_ITEMS = 12,   /* a reference that leads out of its heap may need an exit item or an entry item, and no more is left of these */
+    KAFFE_FORGOTTEN = 13, /* the host is not printed: fewer events are kept than there are */
+    KAFFE_TOO_LONG = 14, /* the host is not printed: there are more operations than a trace has, 200,000, or the texts would have more bytes than
+                            a check reads, 16,777,216 for the trace and 67,108,864 for both */
+    KAFFE_OVER = 15     /* the host is not printed: every process has ended */
 };
 
 /* Why an operation is refused. It counts as done, and has changed no heap, register or charge. */
@@ -63,6 +67,7 @@ enum kaffe_what {
     KAFFE_NAME = 1,    /* seg, serial: an object. A name is never used again. Both 0: null */
     KAFFE_NUMBER = 2,  /* number */
     KAFFE_FREED = 3,   /* what a collection freed: seg objects, number bytes, serial exit items, at shares */
+    KAFFE_TEXTS = 4,   /* what was printed: seg bytes of the trace, number bytes of the report */
     KAFFE_ASKED = 32   /* 32 and more: what an event was asked for, see kaffe_event_at. what - 32 is the number of its call */
 };
 
@@ -108,6 +113,8 @@ enum kaffe_call_number {
     KAFFE_CALL_KILL = 18,
     KAFFE_CALL_ABSORB = 19,
     KAFFE_CALL_TAKE = 20,
+    KAFFE_CALL_PUBLISH = 21,
+    KAFFE_CALL_PRINT = 24,
     KAFFE_ASK_LIVES = 32,
     KAFFE_ASK_BYTES = 33,
     KAFFE_ASK_CHARGE = 34,
@@ -132,6 +139,12 @@ enum kaffe_event_number {
     KAFFE_EVENT_CLOSING = 23 /* the last collection of a run: no function of this header adds it */
 };
 
+/* The texts of a host that was printed. */
+enum kaffe_text {
+    KAFFE_TRACE = 0,
+    KAFFE_REPORT = 1
+};
+
 /* For how much a host has room. The opening takes memory for all of it, and no call takes any for a table after it. */
 typedef struct kaffe_rooms { /* 28 bytes, passed by value */
     uint32_t events;         /* events in the host's whole life: below 2^30, and at least three for each process, one for each shared heap
@@ -151,12 +164,14 @@ typedef struct kaffe_name {
     uint32_t seg, serial;
 } kaffe_name;
 
-/* The five functions that are linked. The caller gives kaffe_size() bytes, aligned as malloc aligns, and has them back after kaffe_close.
-   kaffe_open always leaves something to be closed: a host, or a place without one, whose every call answers KAFFE_NO_HOST. */
+/* The six functions that are linked. The caller gives kaffe_size() bytes, aligned as malloc aligns, and has them back after kaffe_close.
+   kaffe_open always leaves something to be closed: a host, or a place without one, whose every call answers KAFFE_NO_HOST. kaffe_read is told
+   of at kaffe_print. */
 size_t kaffe_size(void);
 kaffe_rooms kaffe_rooms_for(uint32_t objects, uint32_t processes, uint32_t heaps);
 void kaffe_open(const uint8_t *text, size_t length, uint32_t type, uint32_t bodies, kaffe_rooms rooms, kaffe_host *at);
 kaffe_answer kaffe_call(kaffe_host *host, kaffe_request request);
+size_t kaffe_read(kaffe_host *host, uint32_t text, size_t from, uint8_t *into, size_t length);
 void kaffe_close(kaffe_host *host);
 
 static inline kaffe_answer kaffe_request_call(kaffe_host *h, uint32_t call, uint32_t pid, uint32_t at, uint32_t to, uint8_t reg,
@@ -316,6 +331,19 @@ static inline int kaffe_event_at(kaffe_host *h, uint32_t number, kaffe_event *ev
 static inline int kaffe_take(kaffe_host *h, kaffe_event *event) {
     kaffe_answer a = kaffe_request_call(h, KAFFE_CALL_TAKE, 0, 0, 0, 0, 0, 0);
     return a.status == KAFFE_OK && a.what == KAFFE_NUMBER && kaffe_event_at(h, (uint32_t)a.number, event);
+}
+
+/* Publishes what each process did inside its heap: all that was done is in the journal then. It takes nothing of what is left, and a process that
+   is ended or has nothing unpublished changes nothing. */
+static inline kaffe_answer kaffe_publish(kaffe_host *h) { return kaffe_request_call(h, KAFFE_CALL_PUBLISH, 0, 0, 0, 0, 0, 0); }
+
+/* Publishes, and makes two texts: the trace of all that the host has done, and the report of it, which `kaffe check` accepts one after the
+   other. Answers how many bytes each has. kaffe_read then copies bytes of one of them, enum kaffe_text, from a place on, as many as there are
+   and as fit, and answers how many these are; the pointer may not be NULL. The texts stay until the next ones are made. They take memory, and
+   while they are made so do a copy of all events and the state of the machine after them. */
+static inline kaffe_answer kaffe_print(kaffe_host *h) {
+    kaffe_answer published = kaffe_publish(h);
+    return published.status == KAFFE_OK ? kaffe_request_call(h, KAFFE_CALL_PRINT, 0, 0, 0, 0, 0, 0) : published;
 }
 
 /* A host in memory of malloc, of what the text declares, with these rooms. Each process has a supply of that many bodies of the type: as many

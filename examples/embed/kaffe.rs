@@ -69,6 +69,7 @@ unsafe extern "C" {
     fn kaffe_rooms_for(objects: u32, processes: u32, heaps: u32) -> Rooms;
     fn kaffe_open(text: *const u8, length: usize, ty: u32, bodies: u32, rooms: Rooms, at: *mut Opaque);
     fn kaffe_call(host: *mut Opaque, request: Request) -> Answer;
+    fn kaffe_read(host: *mut Opaque, text: u32, from: usize, into: *mut u8, length: usize) -> usize;
     fn kaffe_close(host: *mut Opaque);
 }
 
@@ -94,6 +95,8 @@ mod call {
     pub const KILL: u32 = 18;
     pub const ABSORB: u32 = 19;
     pub const TAKE: u32 = 20;
+    pub const PUBLISH: u32 = 21;
+    pub const PRINT: u32 = 24;
     pub const LIVES: u32 = 32;
     pub const BYTES: u32 = 33;
     pub const CHARGE: u32 = 34;
@@ -110,6 +113,12 @@ mod call {
     pub const FREED_NAME: u32 = 45;
     pub const EVENT: u32 = 46;
     pub const CAME: u32 = 47;
+}
+
+/// The numbers of the texts.
+mod text {
+    pub const TRACE: u32 = 0;
+    pub const REPORT: u32 = 1;
 }
 
 /// Processes with their heaps and limits. Dropping it gives all its memory back.
@@ -337,6 +346,28 @@ impl Host {
         let answer = self.send(Request { call: call::TAKE, ..Request::default() });
         let number = (answer.status == 0 && answer.what == 2).then_some(answer.number as u32)?;
         self.event(number).map(|event| Taken { number, event })
+    }
+
+    /// Publishes what each process did inside its heap: all that was done is in the journal then.
+    pub fn publish(&mut self) -> Result<(), Refusal> {
+        self.call(Request { call: call::PUBLISH, ..Request::default() }).map(|_| ())
+    }
+
+    /// Publishes, and prints the trace of all that the host has done and the report of it, which `kaffe check` accepts one after the other.
+    /// The host has to keep all its events.
+    pub fn print(&mut self) -> Result<Texts, Refusal> {
+        self.publish()?;
+        let made = self.call(Request { call: call::PRINT, ..Request::default() })?;
+        Ok(Texts { trace: self.read(text::TRACE, made.seg as usize), report: self.read(text::REPORT, made.number as usize) })
+    }
+
+    /// The first bytes of the text, so many as there are of this length.
+    fn read(&mut self, text: u32, length: usize) -> Vec<u8> {
+        let mut bytes = vec![0u8; length];
+        // SAFETY: in the room is what `kaffe_open` left; pointer and length are those of the bytes, which nobody else uses.
+        let count = unsafe { kaffe_read(self.0.as_mut_ptr().cast(), text, 0, bytes.as_mut_ptr(), bytes.len()) };
+        bytes.truncate(count);
+        bytes
     }
 
     /// The bytes of the kernel heap.

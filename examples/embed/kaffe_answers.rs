@@ -56,6 +56,13 @@ pub struct Freed {
     pub shares: u32,
 }
 
+/// What a host has printed, as bytes: a trace, and a report that is accepted for it.
+#[derive(Clone, Debug, PartialEq, Eq)]
+pub struct Texts {
+    pub trace: Vec<u8>,
+    pub report: Vec<u8>,
+}
+
 /// What a call lacks. Nothing has changed.
 #[derive(Clone, Copy, Debug, PartialEq, Eq)]
 pub enum Lack {
@@ -80,6 +87,12 @@ pub enum Lack {
     Objects,
     /// A reference that leads out of its heap may need an exit item or an entry item, and no more is left of these.
     Items,
+    /// The host is not printed: fewer events are kept than there are.
+    Forgotten,
+    /// The host is not printed: there are more than 200,000 operations, or the texts would have more bytes than a check reads.
+    TooLong,
+    /// The host is not printed: every process has ended.
+    Over,
     /// The library is of another version than this module: it has no such call, or answers a number that this module has not.
     NoCall,
 }
@@ -167,6 +180,9 @@ pub(super) fn lack_of(status: u32) -> Lack {
         10 => Lack::Reserved,
         11 => Lack::Objects,
         12 => Lack::Items,
+        13 => Lack::Forgotten,
+        14 => Lack::TooLong,
+        15 => Lack::Over,
         _ => Lack::NoCall,
     }
 }

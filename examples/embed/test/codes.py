@@ -7,7 +7,7 @@ FAULTS = ("Done Null Foreign NotSharer NoField WrongKind Frozen Segv NotPopulati
           "ProcNotBelow LimitNotBelow InUse").split()
 FAULT = {name: number for number, name in enumerate(FAULTS)}
 (NEW, KNEW, SNEW, STORE, LOAD, MOVE, CLEAR, DIR, PUT, GET, SHARE, FREEZE, ATTACH, KILL_BY, RESIZE) = range(15)
-COLLECT, KCOLLECT, KILL, ABSORB, TAKE = 16, 17, 18, 19, 20
+COLLECT, KCOLLECT, KILL, ABSORB, TAKE, PUBLISH = 16, 17, 18, 19, 20, 21
 END_OF_A_COLLECTION = 22
 (LIVES, BYTES, CHARGE, USE, MAX, REGISTER, DONE, EVENTS, BODIES, KERNEL_BYTES, FIRST_ORPHAN, LEFT, FREED_COUNT, FREED_NAME,
  EVENT, CAME) = range(32, 48)

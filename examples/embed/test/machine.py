@@ -6,7 +6,7 @@ whole, and what each process did inside its heap beside it until it is published
 from dataclasses import dataclass
 
 from codes import (UNKNOWN, ENDED, ORPHAN, NO_CALL, RESERVED, OBJECTS, ITEMS, NAME, NUMBER, FREED, FAULT, NEW, KNEW, SNEW, STORE, LOAD,
-                   MOVE, CLEAR, DIR, PUT, GET, SHARE, FREEZE, ATTACH, KILL_BY, RESIZE, COLLECT, KCOLLECT, KILL, ABSORB, TAKE,
+                   MOVE, CLEAR, DIR, PUT, GET, SHARE, FREEZE, ATTACH, KILL_BY, RESIZE, COLLECT, KCOLLECT, KILL, ABSORB, TAKE, PUBLISH,
                    END_OF_A_COLLECTION, EVENT, CAME, REGISTERS_OF, REGISTERS, LIVES, BYTES, CHARGE, USE, MAX, REGISTER, DONE, EVENTS,
                    BODIES, KERNEL_BYTES, FIRST_ORPHAN, LEFT, FREED_COUNT, FREED_NAME, answer, asked)
 
@@ -339,6 +339,11 @@ class Host:
         self.journal += self.tails[p]
         self.tails[p] = []
 
+    def publish_all(self):
+        for p in range(len(self.procs)):
+            self.publish(p)
+        return answer()
+
     def add(self, q, came):
         """The event of the process's call, after what it did inside its heap."""
         self.publish(q.pid)
@@ -486,6 +491,8 @@ class Host:
             return self.serve_whole(q)
         if q.call == TAKE:
             return self.take()
+        if q.call == PUBLISH:
+            return self.publish_all()
         if LIVES <= q.call <= CAME:
             return self.ask(q)
         return answer(status=NO_CALL)

@@ -13,7 +13,7 @@ from dataclasses import astuple
 sys.dont_write_bytecode = True
 
 from codes import (ABSORB, ATTACH, CAME, CLEAR, COLLECT, DIR, EVENT, FREED_NAME, FREEZE, GET, KCOLLECT, KILL, KILL_BY, KNEW, LIVES,  # noqa: E402
-                   LOAD, MOVE, NEW, PUT, RESIZE, SHARE, SNEW, STORE, TAKE, Request)
+                   LOAD, MOVE, NEW, PUBLISH, PUT, RESIZE, SHARE, SNEW, STORE, TAKE, Request)
 from machine import Host, Refused, Rooms  # noqa: E402
 
 CALLS_OF_A_HOST = [200, 600, 2000]
@@ -72,12 +72,12 @@ def some_call(rng, host):
     """A random request, which mostly names what is declared."""
     odd = rng.random() < 0.02
     call = rng.choices(
-        [NEW, KNEW, SNEW, STORE, LOAD, MOVE, CLEAR, DIR, PUT, GET, SHARE, FREEZE, ATTACH, KILL_BY, RESIZE, COLLECT, KCOLLECT, KILL, ABSORB, TAKE, None],
-        [60, 12, 25, 110, 70, 20, 15, 15, 30, 30, 6, 6, 14, 1, 14, 6, 4, 0.5, 2, 40, 70])[0]
+        [NEW, KNEW, SNEW, STORE, LOAD, MOVE, CLEAR, DIR, PUT, GET, SHARE, FREEZE, ATTACH, KILL_BY, RESIZE, COLLECT, KCOLLECT, KILL, ABSORB, TAKE, PUBLISH, None],
+        [60, 12, 25, 110, 70, 20, 15, 15, 30, 30, 6, 6, 14, 1, 14, 6, 4, 0.5, 2, 40, 4, 70])[0]
     if call is None:
         call = rng.choice(range(LIVES, CAME + 1))
     if odd and rng.random() < 0.2:
-        call = rng.choice([15, 21, 22, 31, 48, 1 << 31])
+        call = rng.choice([15, 22, 23, 31, 48, 1 << 31])
     pid = rng.randrange(len(host.procs) + odd)
     at = rng.randrange(4) if rng.random() < 0.9 else rng.choice([0, 5, 16, (1 << 32) - 1])
     if call in (NEW, KNEW):
