@@ -213,7 +213,7 @@ fn drive<H: HostName + Send + Sync, R: Threads + Wait + Sync>(
     host: Host,
     threads: usize,
     rounds: u32,
-) -> Result<Option<u32>, NoMemory>
+) -> Result<Option<u64>, NoMemory>
     requires named { H.home ≡ Some (home_of host NUMBER) }
     requires rest { IsAtRest host }
 {
@@ -235,7 +235,7 @@ pub(crate) fn driven<R: Threads + Wait + Sync>(
     host: Host,
     threads: usize,
     rounds: u32,
-) -> Result<Option<u32>, NoMemory>
+) -> Result<Option<u64>, NoMemory>
     requires { IsAtRest host }
 {
     drive::<Brand, R>(rt, alloc, host, threads, rounds)

@@ -48,7 +48,7 @@ fn events<R: Threads + Wait + Sync>(
     alloc: Global,
     threads: usize,
     rounds: u32,
-) -> Option<u32> {
+) -> Option<u64> {
     let Ok(host) = Host::read(alloc, SETUP, TypeId(0), 10, rooms()) else {
         return None;
     };

@@ -11,7 +11,7 @@ use k_types::Event;
 use std::alloc::Global;
 
 /// The event of that number, of a journal that has kept them all.
-fn event_at(host: &Host, number: u32) -> Event
+fn event_at(host: &Host, number: u64) -> Event
     requires kept { length host.now.book.journal.list ≤ host.now.basis.rooms.kept }
     requires there { number < length host.now.book.journal.list }
     ensures { slice_get host.now.book.journal.list number ≡ Some result }
@@ -47,7 +47,7 @@ pub fn chronicle<'a>(alloc: Global, keeper: &'a Keeper) -> Result<Printed<'a>, C
 {
     keeper.keeps();
     let host = keeper.host();
-    if host.len() > host.rooms().kept {
+    if host.len() > u64::from(host.rooms().kept) {
         return Err(ChronicleError::Forgotten);
     }
     let events = events_of(alloc, host)?;

@@ -22,11 +22,11 @@ pub record CanMeet (trace : Trace) (cell : Cell) (note : NoteValue) (value : Cel
   pub table : note.table ≡ book.journal.table
 
 -- what is known of a cell whose note meets the journal: the note fits it, so that the cell speaks of the whole journal, and the
--- book has room for fewer than 2 ^ 32 events
+-- book has room for fewer than 2 ^ 55 events
 pub record FitsTheBook (trace : Trace) (cell : Cell) (note : NoteValue) (value : CellValue) (book : BookRecord) : Type 0 where
   pub fits : Fits book.journal note
   pub shows : ShowsTheJournal trace book.journal cell note value
-  pub few : book.event_room < 2 ^ 32
+  pub few : book.event_room < 2 ^ 55
 
 -- the process's cell has met the journal of the book, and nothing else has changed
 pub record HeapHasMet (trace : Trace) (old_cell cell : HeapRecord) (old_book book : BookRecord) : Type 0 where
@@ -69,7 +69,7 @@ pub record HaveMet (before : Before) : Type 0 where
   pub book : BookStands before.trace before.book
   pub heap : HeapStands before.trace before.cell before.book
   pub after : ShowsAfter before.trace (User before.cell.pid) before.cell.note before.cell.value before.book
-  pub few : before.book.event_room < 2 ^ 32
+  pub few : before.book.event_room < 2 ^ 55
 
 -- so do both cells and the book
 pub record HaveMetWith (before : BeforeWith) : Type 0 where

@@ -88,7 +88,7 @@ impl<H: HostName> GuestPart<H> {
 
 impl<H: HostName> BookPart<H> {
     /// How many events the journal has.
-    pub fn len(&self) -> u32
+    pub fn len(&self) -> u64
         ensures { result ≡ length self.now.book.journal.list }
     {
         self.book.len()

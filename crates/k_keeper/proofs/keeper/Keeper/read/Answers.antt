@@ -1,4 +1,4 @@
-use Rattle.std.proofs.Common.{ap, inl, inr, arith}
+use Rattle.std.proofs.Common.{◌∙◌, ap, inl, inr, arith}
 use Rattle.k_limits.proofs.Making.{handed_on}
 use Rattle.k_host.specs.Listening.{FreedNames}
 use Rattle.k_keeper.specs.Kept.{IsNotOpened}
@@ -16,7 +16,7 @@ overflow_sub-left c = let enough = c.fits.ensures.0 c.if-not-fits.false in let c
 
 pub invariant_of-result : goal.invariant_of-result
 invariant_of-result c = record {
-  kept = read_kept c.args.text.now c.args.ty c.args.bodies c.args.rooms c.in_ok-host.host c.in_ok-host.ensures.read (c.fits.ensures.0 c.if-not-fits.false) c.processes.result c.processes.ensures;
+  kept = read_kept c.args.text.now c.args.ty c.args.bodies c.args.rooms c.in_ok-host.host c.in_ok-host.ensures.read (c.fits.ensures.0 c.if-not-fits.false) c.from.result (c.from.ensures ∙ c.processes.ensures);
   counted = first_objects c.args.text.now c.args.ty c.args.bodies c.args.rooms c.in_ok-host.host c.in_ok-host.ensures.read;
   listed = first_listed c.args.text.now c.args.ty c.args.bodies c.args.rooms c.in_ok-host.host c.in_ok-host.ensures.read c.most_objects-most.result c.most_objects-most.ensures;
   room = ap (λ (f : FreedNames). f.room) c.in_ok-freed.ensures;
@@ -30,4 +30,4 @@ pub most_objects-most-requires-clause-few : goal.most_objects-most-requires-clau
 most_objects-most-requires-clause-few c = c.in_ok-host.ensures.read.fit.few.objects
 
 pub returns-clause-read : goal.returns-clause-read
-returns-clause-read c = opened c.args.text.now c.args.ty c.args.bodies c.args.rooms c.in_ok-host.host c.in_ok-host.ensures.read (c.fits.ensures.0 c.if-not-fits.false) c.processes.result c.processes.ensures c.in_ok-freed.freed.names 1
+returns-clause-read c = opened c.args.text.now c.args.ty c.args.bodies c.args.rooms c.in_ok-host.host c.in_ok-host.ensures.read (c.fits.ensures.0 c.if-not-fits.false) c.from.result (c.from.ensures ∙ c.processes.ensures) c.in_ok-freed.freed.names 1

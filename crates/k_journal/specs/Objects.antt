@@ -1,5 +1,5 @@
--- How many objects the machine has, event by event.
-use Rattle.std.specs.Prelude.{ℕ, List, length}
+-- How many objects the machine has, and how many there are by what the events of a journal say.
+use Rattle.std.specs.Prelude.{ℕ, ◌+◌, ◌-◌, List, [], ◌∷◌, length}
 use Rattle.k_types.specs.declared.event.Event.{Event}
 use Rattle.k_types.specs.declared.event.Event.TheVariants.{Absorbed, Closing, Done, Ended}
 use Rattle.k_types.specs.declared.event.Reply.{Reply}
@@ -32,3 +32,16 @@ gone_by (Done pid op said) = 0
 gone_by (Ended h objects bytes exits shares) = objects
 gone_by (Absorbed s) = 0
 gone_by Closing = 0
+
+-- how many there are after the event, where there were so many before it
+abbrev pub objects_by : ℕ → Event → ℕ
+objects_by objects event = (objects - gone_by event) + made_by event
+
+-- and after all these events
+abbrev pub objects_from : ℕ → List Event → ℕ
+objects_from objects [] = objects
+objects_from objects (event ∷ events) = objects_from (objects_by objects event) events
+
+-- the directory is there before the first event
+abbrev pub objects_told : List Event → ℕ
+objects_told events = objects_from 1 events
