@@ -22,6 +22,7 @@ use std::alloc::Global;
 
 /// Does the operation inside the process's heap where it needs that heap alone, and publishes once no event more can be unpublished. Else it
 /// tells which cells the operation touches.
+#[inline(always)]
 pub(crate) fn try_here(
     terms: &Terms,
     guest: &mut Guest,
