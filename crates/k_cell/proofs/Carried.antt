@@ -9,7 +9,7 @@ use Rattle.k_areas.specs.k_types.declared.names.Link.{Link}
 use Rattle.k_areas.specs.k_types.declared.names.CellPhase.{CellPhase}
 use Rattle.k_areas.specs.k_types.declared.names.CellPhase.TheVariants.{Idle, Begun, Marked}
 use Rattle.k_areas.specs.k_types.Names.{name_among, name_eq, name_of}
-use Rattle.k_areas.specs.k_types.State.{Content, Holds, content_leads_to}
+use Rattle.k_areas.specs.k_types.State.{Content, Holds, Refers, content_leads_to}
 use Rattle.k_areas.proofs.Lists.{some_one}
 use Rattle.k_agree.proofs.NameTests.{name_eq-true}
 use Rattle.k_areas.specs.k_space.Objects.{BodyValue}
@@ -29,7 +29,8 @@ use Rattle.k_areas.proofs.Named.{marked_named, targets_named}
 use Rattle.k_cell.specs.declared.carrying.Carried.{Carried}
 use Rattle.k_cell.specs.Carried.{AreMarkedFor, AreMarkedIn, IsCarried, IsWhole, known_bound}
 use Rattle.k_cell.specs.Holdings.{AreHoldings}
-use Rattle.k_cell.specs.Placed.{IsIntAt, IsPlacedIn, IsWrittenIn}
+use Rattle.k_cell.specs.Looks.{holds_int, row_fields}
+use Rattle.k_cell.specs.Placed.{IsIntAt, IsPlacedIn, IsWrittenIf, IsWrittenIn}
 use Rattle.k_cell.proofs.Lists.{all_rows_marked, unmarked_targets}
 use Rattle.k_cell.proofs.Marks.{IsMarkedBy, was_unmarked}
 use Rattle.k_areas.proofs.OfParts.{black_marked}
@@ -122,6 +123,12 @@ pub written_carried : (phase : CellPhase) (a new : AreaValue) (items : List Exit
 written_carried phase a new items c after field at content was idle w still = idle_carried phase new items (record c { whole = after }) idle (λ t.
     let s = still t in
     fields_whole a new items c.bound c.first c.roots.items (fields_written a new at field c.bound content w s.1) (foreign_written a new at field content w) (was.whole s.0))
+
+pub stored_carried : (b : Bool) (phase : CellPhase) (a new : AreaValue) (items : List ExitRow) (c : Carried) (after : Bool) (field : ℕ) (at : Name) (content : Content) → IsCarried phase a items c → phase ≡ Idle → IsWrittenIf b a new at field content →
+    (after ≡ true → (c.whole ≡ true) × (is_covered c.bound at ≡ false)) → IsCarried phase new items (record c { whole = after })
+stored_carried true phase a new items c after field at content was idle w still = written_carried phase a new items c after field at content was idle w still
+stored_carried false phase a new items c after field at content was idle same still =
+    subst (λ (x : AreaValue). IsCarried phase x items (record c { whole = after })) (sym same) (idle_carried phase a items (record c { whole = after }) idle (λ t. was.whole (still t).0))
 
 -- marks
 pub unmarked_fields : (a : AreaValue) (n : Name) → fields_at (unmarked a) n ≡ fields_at a n
@@ -420,3 +427,11 @@ pub number_carried : (phase : CellPhase) (a new : AreaValue) (items : List ExitR
     IsCarried phase new items c
 number_carried phase a new items c field at number was idle w int = idle_carried phase new items c idle (λ t.
     whole_same a new items items c.bound c.first c.roots.items (λ n low. lives_same a new at field number w int n) (λ n m low. refers_same a new at field number w int n m) (foreign_written a new at field (Holds number) w) (λ e. e) (λ e. refl) (was.whole t))
+
+pub put_carried : (found : Option Content) (phase : CellPhase) (a new : AreaValue) (items : List ExitRow) (c : Carried) (field : ℕ) (at : Name) (number : ℕ) → IsCarried phase a items c → phase ≡ Idle →
+    found ≡ slice_get (row_fields (row_of_name a.segments at)) field → IsWrittenIf (holds_int found) a new at field (Holds number) → IsCarried phase new items c
+put_carried None phase a new items c field at number was idle is same = subst (λ (x : AreaValue). IsCarried phase x items c) (sym same) was
+put_carried (Some (Refers target)) phase a new items c field at number was idle is same = subst (λ (x : AreaValue). IsCarried phase x items c) (sym same) was
+put_carried (Some (Holds held)) phase a new items c field at number was idle is w =
+    number_carried phase a new items c field at number was idle w
+    (record { row = w.row; there = w.there; is = record { number = held; is = ap (λ o. slice_get (row_fields o) field) (sym w.there) ∙ sym is } })

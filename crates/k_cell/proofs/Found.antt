@@ -1,17 +1,17 @@
 -- An object among those of an area, by its name.
-use Rattle.std.proofs.Common.{◌≡◌, ◌≢◌, ◌⊎◌, ℕ, zero, suc, ◌+◌, ◌<◌, ◌≤◌, cond, refl, sym, ap, ap₂, ◌∙◌, inl, inr, List, [], ◌∷◌, get_or, find, Option, Some, None, option_map, arith}
+use Rattle.std.proofs.Common.{◌≡◌, ◌≢◌, ◌⊎◌, ℕ, zero, suc, ◌+◌, ◌<◌, ◌≤◌, cond, refl, sym, ap, ap₂, ◌∙◌, inl, inr, List, [], ◌∷◌, get_or, find, slice_get, Option, Some, None, option_map, arith}
 use Rattle.std.specs.Option.{option_or}
 use Rattle.std.proofs.lemmas.Bool.{cases_eq, cases_lt}
 use Rattle.std.proofs.lemmas.List.Folds.{find-append}
 use Rattle.k_areas.specs.k_types.declared.names.Name.{Name}
 use Rattle.k_areas.specs.k_types.Names.{name_eq}
-use Rattle.k_areas.specs.k_types.State.{Object, fields_of, object_at}
+use Rattle.k_areas.specs.k_types.State.{Content, Object, fields_of, object_at}
 use Rattle.k_agree.proofs.NameTests.{name_eq-same}
 use Rattle.k_areas.specs.k_space.Segments.{Row, SegmentValue, object_of, objects_from, segment_objects, row_at}
 use Rattle.k_areas.specs.k_space.Areas.{segment_at, row_in_segment, row_of_name}
 use Rattle.k_areas.proofs.AreaRows.{number_found}
 use Rattle.k_areas.specs.Shown.{area_objects, objects_of_some, HasNoneFrom}
-use Rattle.k_cell.specs.Looks.{row_fields, row_type, type_of_some}
+use Rattle.k_cell.specs.Looks.{found_among, row_fields, row_type, type_of_some}
 use Rattle.k_areas.proofs.Shown.{other_serial, other_segment}
 
 module _ (n : Name) where
@@ -100,6 +100,9 @@ module _ (n : Name) where
       by_row : (o : Option Row) → fields_of (option_map (object_of n.seg.0 n.serial.0) o) ≡ row_fields o
       by_row None = refl
       by_row (Some row) = refl
+
+  pub field_found : (segments : List SegmentValue) (bound i : ℕ) → HasNoneFrom segments bound → found_among (area_objects bound segments) n i ≡ slice_get (row_fields (row_of_name segments n)) i
+  field_found segments bound i none = ap (λ (xs : List Content). slice_get xs i) (fields_found segments bound none)
 
   pub type_found : (segments : List SegmentValue) (bound : ℕ) → HasNoneFrom segments bound → type_of_some (object_at (area_objects bound segments) n) ≡ row_type (row_of_name segments n)
   type_found segments bound none = ap type_of_some (object_found segments bound none) ∙ by_row (row_of_name segments n)

@@ -4,6 +4,7 @@ pub mod Areas
 pub mod Living
 pub mod Lists
 pub mod Seen
+pub mod Written
 pub mod Marks
 pub mod Moved
 pub mod Keeps

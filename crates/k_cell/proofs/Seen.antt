@@ -1,5 +1,5 @@
 -- What holdings show after each change of their tables.
-use Rattle.std.proofs.Common.{◌≡◌, inl, inr, ℕ, ◌+◌, ◌<◌, true, false, refl, sym, ap, ap₂, subst, ◌∙◌, List, [], length, map, get_or, set, slice_set, Option, Some, None, option_map, arith}
+use Rattle.std.proofs.Common.{◌≡◌, inl, inr, ℕ, ◌+◌, ◌<◌, Bool, true, false, cond, refl, sym, ap, ap₂, subst, ◌∙◌, List, [], length, map, get_or, set, slice_set, Option, Some, None, option_map, arith}
 use Rattle.std.proofs.lemmas.Bool.{cases_lt, false≢true}
 use Rattle.std.proofs.lemmas.List.{length-set}
 use Rattle.k_areas.specs.k_types.declared.names.Name.{Name}
@@ -29,7 +29,7 @@ use Rattle.k_areas.proofs.Named.{made_listed}
 use Rattle.k_cell.specs.Changes.{next_in, with_body, with_exit_item, with_field}
 use Rattle.k_cell.specs.Holdings.{HoldingsValue, AreBegun, AreHoldings, AreMarksKept, HasObjectRoom, cell_seen, holdings_seen, living_in, serial_rooms_of}
 use Rattle.k_cell.specs.Looks.{field_among, field_count_among, row_fields}
-use Rattle.k_cell.specs.Placed.{CanPlace, IsIntAt, IsPlacedIn, IsRefAt, IsWrittenIn}
+use Rattle.k_cell.specs.Placed.{CanPlace, IsIntAt, IsPlacedIn, IsRefAt, IsWrittenIf, IsWrittenIn}
 use Rattle.k_cell.proofs.Areas.{given_there, next_serial, placed_begun, placed_made, rooms_listed, set_begun, set_made_same, set_numbered, set_rooms}
 use Rattle.k_cell.proofs.Found.{fields_found}
 use Rattle.k_cell.proofs.Living.{living_there}
@@ -198,6 +198,17 @@ module _ (bound : ℕ) (a new : AreaValue) (n : Name) (i : ℕ) (content : Conte
     weighed = kept.weighed ∙ sym (ap (total object_bytes) objects_written ∙ total_written n i content (area_objects bound a.segments));
     marks = subst (λ q. AreMarksKept q new items) (sym idle) tt;
   }
+
+-- a field written where a test holds
+module _ (bound : ℕ) (a new : AreaValue) (n : Name) (i : ℕ) (content : Content) (numbered : AreNumberedBelow bound a.segments) where
+  pub written_if_seen : (b : Bool) → IsWrittenIf b a new n i content → (phase : CellPhase) (exits : ExitList) (note : NoteValue) → phase ≡ Idle →
+      holdings_seen bound phase new exits note ≡ record (holdings_seen bound phase a exits note) { value = cond b (with_field n i content (cell_seen bound phase a exits.items)) (cell_seen bound phase a exits.items) }
+  written_if_seen true w phase exits note idle = written_seen bound a new n i content numbered w phase exits note idle
+  written_if_seen false same phase exits note idle = ap (λ (x : AreaValue). holdings_seen bound phase x exits note) same
+
+  pub written_if_kept : (b : Bool) → IsWrittenIf b a new n i content → (bytes : ℕ) (phase : CellPhase) (items : List ExitRow) → AreHoldings bound bytes phase a items → phase ≡ Idle → AreHoldings bound bytes phase new items
+  written_if_kept true w bytes phase items kept idle = written_kept bound a new n i content numbered w bytes phase items kept idle
+  written_if_kept false same bytes phase items kept idle = subst (λ (x : AreaValue). AreHoldings bound bytes phase x items) (sym same) kept
 
 -- the kind of a field of an object
 pub ref_there : (bound : ℕ) (a : AreaValue) (n : Name) (i : ℕ) → HasNoneFrom a.segments bound → is_ref (field_among (area_objects bound a.segments) n i) ≡ true → IsRefAt a.segments n i

@@ -1,14 +1,15 @@
 -- What calls change of a cell, as functions of its value.
-use Rattle.std.specs.Prelude.{◌≡◌, ℕ, Bool, ◌+◌, ◌==◌, ◌&&◌, ◌||◌, not, [], ◌∷◌, ◌++◌, map, filter, length, slice_index_or, slice_set, Some, None, IsTrue, if◌then◌else◌}
+use Rattle.std.specs.Prelude.{◌≡◌, ℕ, Bool, ◌+◌, ◌==◌, ◌&&◌, ◌||◌, not, [], ◌∷◌, ◌++◌, map, filter, length, slice_index_or, slice_set, Option, Some, None, IsTrue, if◌then◌else◌}
 use Rattle.k_areas.specs.k_types.declared.names.Name.{Name}
 use Rattle.k_areas.specs.k_types.Agree.{CellValue}
 use Rattle.k_areas.specs.k_types.Names.{name_eq, name_among}
-use Rattle.k_areas.specs.k_types.State.{Content, has, refers_in}
+use Rattle.k_areas.specs.k_types.State.{Content, Holds, Refers, has, refers_in}
 use Rattle.k_areas.specs.k_types.Updates.{object_after_write, with_object}
 use Rattle.k_areas.specs.k_base.Distinct.{AreDistinctNames}
 use Rattle.k_areas.specs.k_space.Objects.{BodyValue}
 use Rattle.k_areas.specs.k_space.Segments.{SegmentValue, made, segment_objects}
 use Rattle.k_areas.specs.k_changes.CellChanges.{given, with_objects}
+use Rattle.k_cell.specs.Looks.{found_among, holds_int, holds_ref}
 use Rattle.k_agree.specs.Marking.{AreReached, begun, is_foreign_in, marked}
 
 -- the name of the segment's next object
@@ -25,6 +26,14 @@ with_body seg body v = record v {
 -- the field of the object holds that
 abbrev pub with_field : Name → ℕ → Content → CellValue → CellValue
 with_field n i content v = record v { objects = map (object_after_write n i content) v.objects }
+
+-- the field of the object, if it is there and a reference, holds that one
+abbrev pub with_stored : Name → ℕ → Option Name → CellValue → CellValue
+with_stored n i target v = if holds_ref (found_among v.objects n i) then with_field n i (Refers target) v else v
+
+-- the field of the object, if it is there and an integer, holds that number
+abbrev pub with_put : Name → ℕ → ℕ → CellValue → CellValue
+with_put n i number v = if holds_int (found_among v.objects n i) then with_field n i (Holds number) v else v
 
 -- the cell has an exit item to that object
 abbrev pub with_exit_item : Name → CellValue → CellValue

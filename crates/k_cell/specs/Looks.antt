@@ -1,13 +1,28 @@
 -- What look-ups of an object find, among the objects as the machine has them and in an area.
-use Rattle.std.specs.Prelude.{ℕ, List, [], length, slice_index_or, Option, Some, None}
+use Rattle.std.specs.Prelude.{ℕ, Bool, false, List, [], length, not, slice_get, slice_index_or, Option, Some, None}
 use Rattle.k_areas.specs.k_types.declared.names.Name.{Name}
 use Rattle.k_areas.specs.k_types.declared.names.TypeId.{TypeId}
+use Rattle.k_areas.specs.k_types.Replies.{is_ref}
 use Rattle.k_areas.specs.k_types.State.{Content, Holds, Object, fields_of, object_at}
 use Rattle.k_areas.specs.k_space.Segments.{Row}
 
 -- what the field of the object holds; the number 0 where there is no such field
 abbrev pub field_among : List Object → Name → ℕ → Content
 field_among objects n i = slice_index_or (fields_of (object_at objects n)) i (Holds 0)
+
+-- the same; none where there is no such field
+abbrev pub found_among : List Object → Name → ℕ → Option Content
+found_among objects n i = slice_get (fields_of (object_at objects n)) i
+
+-- the field is there, and it is a reference
+abbrev pub holds_ref : Option Content → Bool
+holds_ref None = false
+holds_ref (Some held) = is_ref held
+
+-- the field is there, and it is an integer
+abbrev pub holds_int : Option Content → Bool
+holds_int None = false
+holds_int (Some held) = not (is_ref held)
 
 -- the number of the object's fields; none where there is no such object
 abbrev pub field_count_among : List Object → Name → ℕ

@@ -1,5 +1,5 @@
 -- What changes of one segment make of an area.
-use Rattle.std.specs.Prelude.{◌≡◌, ◌⊎◌, ℕ, ◌<◌, List, length, slice_set, Some}
+use Rattle.std.specs.Prelude.{◌≡◌, ◌⊎◌, ℕ, ◌<◌, Bool, true, false, List, length, slice_set, Some}
 use Rattle.k_areas.specs.k_types.declared.names.Name.{Name}
 use Rattle.k_areas.specs.k_types.declared.names.Link.{Link}
 use Rattle.k_areas.specs.k_types.State.{Content}
@@ -39,3 +39,8 @@ pub record IsWrittenIn (old new : AreaValue) (n : Name) (field : ℕ) (content :
   pub row : Row
   pub there : row_of_name old.segments n ≡ Some row
   pub written : new ≡ with_row_of old n (Some (record row { fields = slice_set row.fields field content }))
+
+-- the same where the test holds, and else nothing has changed
+abbrev pub IsWrittenIf : Bool → AreaValue → AreaValue → Name → ℕ → Content → Type 0
+IsWrittenIf true old new n field content = IsWrittenIn old new n field content
+IsWrittenIf false old new n field content = new ≡ old

@@ -17,8 +17,8 @@ ghost use Rattle.k_areas.specs.k_space.Objects.{content_of};
 ghost use Rattle.k_areas.specs.k_space.Segments.{made, segment_bytes};
 ghost use Rattle.k_agree.specs.Marking.{begun};
 ghost use Rattle.k_agree.specs.Ending.{freed_bytes, freed_objects};
-ghost use Rattle.k_cell.specs.Looks.{field_among, field_count_among, type_among};
-ghost use Rattle.k_cell.specs.Changes.{HasDroppedExit, HasGrayed, HasItsExits, HasMarked, HasRoot, next_in, with_black_alone, with_body, with_exit_item, with_field, freed_at};
+ghost use Rattle.k_cell.specs.Looks.{field_among, field_count_among, found_among, type_among};
+ghost use Rattle.k_cell.specs.Changes.{HasDroppedExit, HasGrayed, HasItsExits, HasMarked, HasRoot, next_in, with_black_alone, with_body, with_exit_item, with_field, with_put, with_stored, freed_at};
 ghost use Rattle.k_areas.specs.k_mark.Listening.{AreTold};
 ghost use Rattle.k_cell.specs.Holdings.{HasGivenSegment, HasObjectRoom, fresh_holdings, with_segment_added};
 
@@ -153,6 +153,13 @@ impl Holdings {
         self.area.field_at(at, field)
     }
 
+    /// What the field of the object holds; none where there is no such field. Constant time.
+    pub fn found(&self, at: Link, field: u32) -> Option<Stored>
+        ensures { option_map content_of result ≡ found_among self.now.value.objects (name_of at) field }
+    {
+        self.area.found_at(at, field)
+    }
+
     /// The object's type; none where it is the directory, or there is no such object. Constant time.
     pub fn type_of(&self, at: Name) -> Option<TypeId>
         ensures { result ≡ type_among self.now.value.objects at }
@@ -239,6 +246,29 @@ impl Holdings {
         ensures { self.new ≡ record self.old { value = with_field (name_of at) field (Holds value) self.old.value } }
     {
         self.area.write_int_in(at, field, value);
+    }
+
+    /// Stores a reference, or null, where the object has the field and that is a reference, and answers what the field held; none where there
+    /// is no such field. It asks no write barrier, and adds no exit item: both are the caller's. Constant time, and no memory.
+    pub fn store(&mut self, at: Link, field: u32, value: Option<Link>) -> Option<Stored>
+        requires idle { self.old.value.collection ≡ Idle }
+        ensures found { option_map content_of result ≡ found_among self.old.value.objects (name_of at) field }
+        ensures stored { self.new ≡ record self.old { value = with_stored (name_of at) field (option_map name_of value) self.old.value } }
+    {
+        let name = at.name();
+        let found = self.area.store_in(at, field, value);
+        self.carried.whole = still_whole(self.carried.whole, self.carried.bound, name);
+        found
+    }
+
+    /// Puts a number where the object has the field and that is an integer, and answers what the field held; none where there is no such
+    /// field. Constant time, and no memory.
+    pub fn put(&mut self, at: Link, field: u32, value: u64) -> Option<Stored>
+        requires idle { self.old.value.collection ≡ Idle }
+        ensures found { option_map content_of result ≡ found_among self.old.value.objects (name_of at) field }
+        ensures put { self.new ≡ record self.old { value = with_put (name_of at) field value self.old.value } }
+    {
+        self.area.put_in(at, field, value)
     }
 
     /// Adds the exit item where it is new, and tells whether it was. Constant time where the hash spreads the names, and no

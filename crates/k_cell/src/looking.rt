@@ -1,5 +1,5 @@
 //! Look-ups of one object in an area, by its name or by a reference with a hint of its slot, and of room for one more.
-ghost use Rattle.std.specs.Prelude.{◌≡◌, ◌↔◌, IsTrue, is_some, length, option_map, slice_index_or};
+ghost use Rattle.std.specs.Prelude.{◌≡◌, ◌↔◌, IsTrue, is_some, length, option_map, slice_get, slice_index_or};
 ghost use Rattle.k_areas.specs.k_types.Names.{name_of};
 ghost use Rattle.k_areas.specs.k_types.State.{Holds};
 ghost use Rattle.k_areas.specs.k_space.Areas.{HasDistinct, row_of_name};
@@ -49,6 +49,19 @@ pub(crate) fn field_at(area: &Area, at: Link, field: u32) -> Stored
         return Stored::Holds(0);
     }
     segment.stored(slot, field)
+}
+
+/// What its field holds; none where there is no such field.
+pub(crate) fn found_at(area: &Area, at: Link, field: u32) -> Option<Stored>
+    requires { HasDistinct area.now.segments }
+    ensures { option_map content_of result ≡ slice_get (row_fields (row_of_name area.now.segments (name_of at))) field }
+{
+    let segment = area.get(at.seg)?;
+    let slot = segment.find_near(at.serial, at.slot)?;
+    if field >= segment.field_count(slot) {
+        return None;
+    }
+    Some(segment.stored(slot, field))
 }
 
 /// Its type; none where it has none, or is not there.

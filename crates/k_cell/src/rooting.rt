@@ -11,13 +11,13 @@ ghost use Rattle.k_areas.specs.k_mark.Listening.{AreTold, dead_at};
 ghost use Rattle.k_areas.specs.k_mark.Marking.{IsExit, IsReachedIn, refers_at};
 ghost use Rattle.k_areas.specs.k_mark.Sweeping.{dead_bytes, dead_objects, swept};
 ghost use Rattle.k_cell.specs.Carried.{IsWhole, known_bound};
-ghost use Rattle.k_cell.specs.Looks.{row_fields, row_type};
-ghost use Rattle.k_cell.specs.Placed.{CanPlace, IsIntAt, IsPlacedIn, IsRefAt, IsWrittenIn};
+ghost use Rattle.k_cell.specs.Looks.{holds_int, holds_ref, row_fields, row_type};
+ghost use Rattle.k_cell.specs.Placed.{CanPlace, IsIntAt, IsPlacedIn, IsRefAt, IsWrittenIf, IsWrittenIn};
 ghost use Rattle.k_cell.specs.Rooted.{AreGrayBut, grayed_all};
 
 use crate::carrying::{is_reached_still, known_bound, known_first, marked_below};
-use crate::looking::{count_at, field_at, has_room_in, lives_at, type_at};
-use crate::writing::{place_in, write_int_in, write_ref_in};
+use crate::looking::{count_at, field_at, found_at, has_room_in, lives_at, type_at};
+use crate::writing::{place_in, put_in, store_in, write_int_in, write_ref_in};
 use k_areas::{
     Area, Body, Bound, ExitTable, Link, Listener, Name, NoMemory, Seg, Segment, Stored, Swept,
     TypeId, clear, mark_kept, root, sweep_telling,
@@ -217,6 +217,14 @@ impl RootedArea {
         field_at(&self.area, at, field)
     }
 
+    /// What its field holds; none where there is no such field.
+    pub(crate) fn found_at(&self, at: Link, field: u32) -> Option<Stored>
+        requires { HasDistinct self.now.segments }
+        ensures { option_map content_of result ≡ slice_get (row_fields (row_of_name self.now.segments (name_of at))) field }
+    {
+        found_at(&self.area, at, field)
+    }
+
     /// Its type; none where it has none, or is not there.
     pub(crate) fn type_at(&self, at: Name) -> Option<TypeId>
         requires { HasDistinct self.now.segments }
@@ -261,6 +269,26 @@ impl RootedArea {
     {
         settle(&mut self.area, &mut self.noted, &mut self.all_noted);
         write_int_in(&mut self.area, at, field, value);
+    }
+
+    /// Stores the reference where the field is there and a reference, and answers what the field held; none where there is no such field.
+    pub(crate) fn store_in(&mut self, at: Link, field: u32, value: Option<Link>) -> Option<Stored>
+        requires { HasDistinct self.old.segments }
+        ensures found { option_map content_of result ≡ slice_get (row_fields (row_of_name self.old.segments (name_of at))) field }
+        ensures stored { IsWrittenIf (holds_ref (option_map content_of result)) self.old self.new (name_of at) field (Refers (option_map name_of value)) }
+    {
+        settle(&mut self.area, &mut self.noted, &mut self.all_noted);
+        store_in(&mut self.area, at, field, value)
+    }
+
+    /// Puts the number where the field is there and an integer, and answers what the field held; none where there is no such field.
+    pub(crate) fn put_in(&mut self, at: Link, field: u32, value: u64) -> Option<Stored>
+        requires { HasDistinct self.old.segments }
+        ensures found { option_map content_of result ≡ slice_get (row_fields (row_of_name self.old.segments (name_of at))) field }
+        ensures put { IsWrittenIf (holds_int (option_map content_of result)) self.old self.new (name_of at) field (Holds value) }
+    {
+        settle(&mut self.area, &mut self.noted, &mut self.all_noted);
+        put_in(&mut self.area, at, field, value)
     }
 
     /// Takes all marks away, from objects and exit items, and forgets the noted roots.

@@ -4,20 +4,21 @@ ghost use Rattle.std.specs.List.{list_any};
 ghost use Rattle.k_types.specs.Names.{name_among, name_of};
 ghost use Rattle.k_types.specs.Owners.{object_bytes};
 ghost use Rattle.k_types.specs.Replies.{is_ref};
-ghost use Rattle.k_types.specs.State.{Holds, Refers};
+ghost use Rattle.k_types.specs.State.{Refers};
 ghost use Rattle.k_types.specs.Totals.{total};
 ghost use Rattle.k_types.specs.declared.names.CellPhase.TheVariants.{Begun, Idle, Marked};
 ghost use Rattle.k_types.specs.declared.names.Name.{Name as Named};
+ghost use Rattle.k_cell.specs.k_space.Objects.{content_of};
 ghost use Rattle.k_cell.specs.Marking.{begun};
 ghost use Rattle.k_cell.specs.Ending.{freed_bytes, freed_objects};
-ghost use Rattle.k_cell.specs.Looks.{field_among, field_count_among};
-ghost use Rattle.k_cell.specs.Changes.{HasDroppedExit, HasGrayed, HasItsExits, HasMarked, HasRoot, next_in, with_black_alone, with_body, with_exit_item, with_field, freed_at};
+ghost use Rattle.k_cell.specs.Looks.{field_among, found_among};
+ghost use Rattle.k_cell.specs.Changes.{HasDroppedExit, HasGrayed, HasItsExits, HasMarked, HasRoot, next_in, with_black_alone, with_body, with_exit_item, with_field, with_put, with_stored, freed_at};
 ghost use Rattle.k_cell.specs.Listening.{AreTold};
 ghost use Rattle.k_cell.specs.Holdings.{HasGivenSegment, HasObjectRoom};
 ghost use Rattle.k_heap.specs.Heaps.{holdings_of, own_segment};
 
 use crate::heap::HeapCell;
-use k_cell::{Body, Listener, Segment, Swept};
+use k_cell::{Body, Listener, Segment, Stored, Swept};
 use k_types::{Link, Name, Seg};
 
 impl HeapCell {
@@ -43,14 +44,24 @@ impl HeapCell {
         self.holdings.write_ref(at, field, value);
     }
 
-    /// Writes a number into the field of the object. Constant time, and no memory.
-    pub fn write_int(&mut self, at: Link, field: u32, value: u64)
+    /// Stores a reference, or null, where the object has the field and that is a reference, and answers what the field held; none where there
+    /// is no such field. It asks no write barrier, and adds no exit item: both are the caller's. Constant time, and no memory.
+    pub fn store(&mut self, at: Link, field: u32, value: Option<Link>) -> Option<Stored>
         requires idle { self.old.value.collection ≡ Idle }
-        requires there { field < field_count_among self.old.value.objects (name_of at) }
-        requires kind { IsFalse (is_ref (field_among self.old.value.objects (name_of at) field)) }
-        ensures { self.new ≡ record self.old { value = with_field (name_of at) field (Holds value) self.old.value } }
+        ensures found { option_map content_of result ≡ found_among self.old.value.objects (name_of at) field }
+        ensures stored { self.new ≡ record self.old { value = with_stored (name_of at) field (option_map name_of value) self.old.value } }
     {
-        self.holdings.write_int(at, field, value);
+        self.holdings.store(at, field, value)
+    }
+
+    /// Puts a number where the object has the field and that is an integer, and answers what the field held; none where there is no such
+    /// field. Constant time, and no memory.
+    pub fn put(&mut self, at: Link, field: u32, value: u64) -> Option<Stored>
+        requires idle { self.old.value.collection ≡ Idle }
+        ensures found { option_map content_of result ≡ found_among self.old.value.objects (name_of at) field }
+        ensures put { self.new ≡ record self.old { value = with_put (name_of at) field value self.old.value } }
+    {
+        self.holdings.put(at, field, value)
     }
 
     /// Adds the exit item where it is new, and tells whether it was. Constant time where the hash spreads the names, and no

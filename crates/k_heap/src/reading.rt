@@ -8,7 +8,7 @@ ghost use Rattle.k_types.specs.Totals.{total};
 ghost use Rattle.k_cell.specs.k_base.Distinct.{AreDistinctNames};
 ghost use Rattle.k_cell.specs.k_frame.PartUpdates.{done_in, held_in};
 ghost use Rattle.k_cell.specs.k_space.Objects.{content_of};
-ghost use Rattle.k_cell.specs.Looks.{field_among, field_count_among, type_among};
+ghost use Rattle.k_cell.specs.Looks.{field_among, field_count_among, found_among, type_among};
 ghost use Rattle.k_cell.specs.Holdings.{HasObjectRoom};
 ghost use Rattle.k_heap.specs.Heaps.{has_ended_in, holdings_of, own_segment};
 
@@ -87,6 +87,13 @@ impl HeapCell {
         ensures { content_of result ≡ field_among self.now.value.objects (name_of at) field }
     {
         self.holdings.field(at, field)
+    }
+
+    /// What the field of the object holds; none where there is no such field. Constant time.
+    pub fn found(&self, at: Link, field: u32) -> Option<Stored>
+        ensures { option_map content_of result ≡ found_among self.now.value.objects (name_of at) field }
+    {
+        self.holdings.found(at, field)
     }
 
     /// The object's type; none where there is no such object. Constant time.

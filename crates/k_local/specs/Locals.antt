@@ -3,7 +3,7 @@ use Rattle.std.specs.Prelude.{◌≡◌, ℕ, ◌+◌, ◌==◌, ◌<◌, ◌&&�
 use Rattle.k_types.specs.declared.event.Event.TheVariants.{Done as DoneEvent}
 use Rattle.k_types.specs.declared.event.Fault.TheVariants.{Null, NoField, WrongKind}
 use Rattle.k_types.specs.declared.event.Reply.{Reply}
-use Rattle.k_types.specs.declared.event.Reply.TheVariants.{Done, Made, Loaded, Value, Refused}
+use Rattle.k_types.specs.declared.event.Reply.TheVariants.{Done, Loaded, Value, Refused}
 use Rattle.k_types.specs.declared.names.Name.{Name}
 use Rattle.k_types.specs.declared.names.Pid.{Pid}
 use Rattle.k_types.specs.declared.op.Op.{Op}
@@ -32,6 +32,21 @@ use Rattle.k_heap.specs.Heaps.{HeapRecord, with_register_in}
 abbrev pub field_answer : CellValue → ℕ → Name → ℕ → Bool → Option Reply → Option Reply
 field_answer v p x i of_kind answer =
     if x.seg.0 == p + 1 then (if nat_le (field_count_among v.objects x) i then Some (Refused NoField) else (if of_kind then answer else Some (Refused WrongKind))) else None
+
+-- the answer to an access to a field that holds that, if it is there and a reference, by what is answered then
+abbrev pub ref_answer : Option Content → Option Reply → Option Reply
+ref_answer None answer = Some (Refused NoField)
+ref_answer (Some held) answer = if is_ref held then answer else Some (Refused WrongKind)
+
+-- the same of an integer
+abbrev pub int_answer : Option Content → Option Reply → Option Reply
+int_answer None answer = Some (Refused NoField)
+int_answer (Some held) answer = if not (is_ref held) then answer else Some (Refused WrongKind)
+
+-- the number that a field holds which may be there
+abbrev pub number_found : Option Content → ℕ
+number_found None = 0
+number_found (Some held) = number_in held
 
 -- the answer to a store of the value through what the base register holds
 abbrev pub store_answer : CellValue → ℕ → Option Name → ℕ → Option Name → Option Reply

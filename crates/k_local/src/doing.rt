@@ -16,7 +16,7 @@ ghost use Rattle.k_squares.specs.Locals.{is_local_in};
 ghost use Rattle.k_space.specs.Objects.{content_of};
 ghost use Rattle.k_heap.specs.Heaps.{with_register_in};
 ghost use Rattle.k_heap.specs.Looks.{field_among, field_count_among};
-ghost use Rattle.k_local.specs.Locals.{HasRegisters, IsChanged, IsMachines, LeavesTheBook, ShowOwn, after_local, field_answer, get_answer, is_refusal, load_answer, loaded_through, local_answer, local_change, put_answer, store_answer, written_through};
+ghost use Rattle.k_local.specs.Locals.{HasRegisters, IsChanged, IsMachines, LeavesTheBook, ShowOwn, after_local, field_answer, get_answer, int_answer, is_refusal, load_answer, loaded_through, local_answer, local_change, number_found, put_answer, ref_answer, store_answer, written_through};
 
 use k_heap::HeapCell;
 use k_space::Stored;
@@ -153,13 +153,6 @@ fn field_answer(
     }
 }
 
-/// `Done`, where the test holds.
-fn done_if(test: bool) -> Option<Reply>
-    ensures { result ≡ (if test then Some Done else None) }
-{
-    if test { Some(Reply::Done) } else { None }
-}
-
 /// The answer that the reference was loaded, where the test holds.
 fn loaded_if(test: bool, value: Option<Name>) -> Option<Reply>
     ensures { result ≡ (if test then Some (Loaded value) else None) }
@@ -169,22 +162,6 @@ fn loaded_if(test: bool, value: Option<Name>) -> Option<Reply>
     } else {
         None
     }
-}
-
-fn store_answer(
-    cell: &HeapCell,
-    base: Option<Link>,
-    field: u32,
-    value: Option<Link>,
-) -> Option<Reply>
-    ensures { result ≡ store_answer cell.now.value cell.now.pid.0 (option_map name_of base) field (option_map name_of value) }
-{
-    let Some(at) = base else {
-        return Some(Reply::Refused(Fault::Null));
-    };
-    let stored = own_field(cell, at, field)?;
-    let answer = done_if(is_own(cell.pid(), value));
-    field_answer(cell, at, field, stored, is_ref(stored), answer)
 }
 
 /// The answer to a load from the field of the object, which is the process's own, and whose look-up finds that, where the result
@@ -206,27 +183,6 @@ fn load_answer(
     field_answer(cell, at, field, found, is_ref(found), answer)
 }
 
-fn put_answer(cell: &HeapCell, base: Option<Link>, field: u32) -> Option<Reply>
-    ensures { result ≡ put_answer cell.now.value cell.now.pid.0 (option_map name_of base) field }
-{
-    let Some(at) = base else {
-        return Some(Reply::Refused(Fault::Null));
-    };
-    let stored = own_field(cell, at, field)?;
-    field_answer(cell, at, field, stored, !is_ref(stored), Some(Reply::Done))
-}
-
-fn get_answer(cell: &HeapCell, base: Option<Link>, field: u32) -> Option<Reply>
-    ensures { result ≡ get_answer cell.now.value cell.now.pid.0 (option_map name_of base) field }
-{
-    let Some(at) = base else {
-        return Some(Reply::Refused(Fault::Null));
-    };
-    let stored = own_field(cell, at, field)?;
-    let answer = Some(Reply::Value(number_in(stored)));
-    field_answer(cell, at, field, stored, !is_ref(stored), answer)
-}
-
 /// Whether the reply is a fault.
 fn is_refusal(reply: Reply) -> bool
     ensures { result ≡ is_refusal reply }
@@ -240,26 +196,27 @@ fn is_refusal(reply: Reply) -> bool
     }
 }
 
-/// Writes a reference through the base, if it is not null.
-fn write_ref(cell: &mut HeapCell, base: Option<Link>, field: u32, value: Option<Link>)
-    requires idle { cell.old.value.collection ≡ Idle }
-    requires kind { (x : Named) → option_map name_of base ≡ Some x → IsTrue (is_ref (field_among cell.old.value.objects x field)) }
-    ensures { cell.new ≡ record cell.old { value = written_through (option_map name_of base) field (Refers (option_map name_of value)) cell.old.value } }
+/// The answer to an access to a field that holds that, if it is there and a reference, where the access is answered so; else the fault.
+fn ref_answer(found: Option<Stored>, answer: Option<Reply>) -> Option<Reply>
+    ensures { result ≡ ref_answer (option_map content_of found) answer }
 {
-    if let Some(at) = base {
-        cell.write_ref(at, field, value);
+    match found {
+        None => Some(Reply::Refused(Fault::NoField)),
+        Some(Stored::Holds(_)) => Some(Reply::Refused(Fault::WrongKind)),
+        Some(Stored::Null) => answer,
+        Some(Stored::Refers(_)) => answer,
     }
 }
 
-/// Writes a number through the base, if it is not null.
-fn write_int(cell: &mut HeapCell, base: Option<Link>, field: u32, number: u64)
-    requires idle { cell.old.value.collection ≡ Idle }
-    requires there { (x : Named) → option_map name_of base ≡ Some x → field < field_count_among cell.old.value.objects x }
-    requires kind { (x : Named) → option_map name_of base ≡ Some x → IsFalse (is_ref (field_among cell.old.value.objects x field)) }
-    ensures { cell.new ≡ record cell.old { value = written_through (option_map name_of base) field (Holds number) cell.old.value } }
+/// The same of an integer.
+fn int_answer(found: Option<Stored>, answer: Option<Reply>) -> Option<Reply>
+    ensures { result ≡ int_answer (option_map content_of found) answer }
 {
-    if let Some(at) = base {
-        cell.write_int(at, field, number);
+    match found {
+        None => Some(Reply::Refused(Fault::NoField)),
+        Some(Stored::Holds(_)) => answer,
+        Some(Stored::Null) => Some(Reply::Refused(Fault::WrongKind)),
+        Some(Stored::Refers(_)) => Some(Reply::Refused(Fault::WrongKind)),
     }
 }
 
@@ -271,13 +228,17 @@ fn store(cell: &mut HeapCell, base: Reg, field: u32, value: Reg) -> Option<Reply
     ensures none { IfNone result (cell.new ≡ cell.old) }
     ensures some { IfSome result (λ said. IsChanged cell.old cell.new said (written_through (held_in cell.old.value.process base.0) field (Refers (held_in cell.old.value.process value.0)) cell.old.value)) }
 {
-    let into = cell.reg(base);
-    let stored = cell.reg(value);
-    let reply = store_answer(cell, into, field, stored)?;
-    if !is_refusal(reply) {
-        write_ref(cell, into, field, stored);
+    let Some(at) = cell.reg(base) else {
+        return Some(Reply::Refused(Fault::Null));
+    };
+    if !lies_in(cell.pid(), at) {
+        return None;
     }
-    Some(reply)
+    let stored = cell.reg(value);
+    if !is_own(cell.pid(), stored) {
+        return ref_answer(cell.found(at, field), None);
+    }
+    ref_answer(cell.store(at, field, stored), Some(Reply::Done))
 }
 
 /// Loads into the register, and answers; `None` where that is not local.
@@ -306,12 +267,38 @@ fn put(cell: &mut HeapCell, base: Reg, field: u32, number: u64) -> Option<Reply>
     ensures none { IfNone result (cell.new ≡ cell.old) }
     ensures some { IfSome result (λ said. IsChanged cell.old cell.new said (written_through (held_in cell.old.value.process base.0) field (Holds number) cell.old.value)) }
 {
-    let into = cell.reg(base);
-    let reply = put_answer(cell, into, field)?;
-    if !is_refusal(reply) {
-        write_int(cell, into, field, number);
+    let Some(at) = cell.reg(base) else {
+        return Some(Reply::Refused(Fault::Null));
+    };
+    if !lies_in(cell.pid(), at) {
+        return None;
     }
-    Some(reply)
+    int_answer(cell.put(at, field, number), Some(Reply::Done))
+}
+
+/// The number that a field holds; 0 where there is no such field, or it is a reference.
+fn number_found(found: Option<Stored>) -> u64
+    ensures { result ≡ number_found (option_map content_of found) }
+{
+    match found {
+        Some(stored) => number_in(stored),
+        None => 0,
+    }
+}
+
+/// Reads the number, and answers; `None` where that is not local.
+fn get(cell: &HeapCell, base: Reg, field: u32) -> Option<Reply>
+    requires register { base.0 < 16 }
+    ensures { result ≡ get_answer cell.now.value cell.now.pid.0 (held_in cell.now.value.process base.0) field }
+{
+    let Some(at) = cell.reg(base) else {
+        return Some(Reply::Refused(Fault::Null));
+    };
+    if !lies_in(cell.pid(), at) {
+        return None;
+    }
+    let found = cell.found(at, field);
+    int_answer(found, Some(Reply::Value(number_found(found))))
 }
 
 /// Has the register hold the reference, and answers; `None` where that is not local, since it held or is to hold a foreign one.
@@ -351,7 +338,7 @@ fn apply(cell: &mut HeapCell, op: &Op) -> Option<Reply>
             field,
             number,
         } => put(cell, base, field, number),
-        Op::Get { base, field } => get_answer(cell, cell.reg(base), field),
+        Op::Get { base, field } => get(cell, base, field),
         Op::New { reg: _, ty: _ } => None,
         Op::KNew { reg: _, ty: _ } => None,
         Op::SNew {

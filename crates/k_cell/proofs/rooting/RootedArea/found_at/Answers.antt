@@ -1,0 +1,11 @@
+use Rattle.std.proofs.Common.{List, slice_get, ap, ◌∙◌}
+use Rattle.k_areas.specs.k_types.Names.{name_of}
+use Rattle.k_areas.specs.k_types.State.{Content}
+use Rattle.k_cell.proofs.Rooted.{distinct_inside, fields_same}
+use Rattle.k_cell.proofs.rooting.RootedArea.found_at.Goals as goal
+
+pub found_at-requires : goal.found_at-requires
+found_at-requires c = distinct_inside c.self.inside.area c.args.self.now c.self.inside.noted.items c.self.view_is c.requires
+
+pub returns : goal.returns
+returns c = c.found_at.ensures ∙ ap (λ (xs : List Content). slice_get xs c.args.field) (fields_same c.self.inside.area c.args.self.now c.self.inside.noted.items (name_of c.args.at) c.self.view_is)
