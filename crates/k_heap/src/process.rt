@@ -22,6 +22,7 @@ impl HeapCell {
     }
 
     /// Counts one more operation of the process as done.
+    #[inline(always)]
     pub fn count_done(&mut self)
         requires { done_in self.old.value.process < 2 ^ 64 - 1 }
         ensures { self.new ≡ record self.old { value = with_one_done self.old.value } }
@@ -38,6 +39,7 @@ impl HeapCell {
     }
 
     /// Keeps an event that the journal lacks, as the newest. Constant time, and no memory.
+    #[inline(always)]
     pub fn push_tail(&mut self, event: Event)
         requires { length self.old.value.tail < self.old.tail_room }
         ensures { self.new ≡ record self.old { value = record self.old.value { tail = self.old.value.tail ++ event ∷ [] } } }

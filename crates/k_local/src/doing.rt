@@ -25,6 +25,7 @@ use k_types::{Event, Fault, Link, Name, Op, Pid, Reg, Reply};
 /// Does the operation of the process where it needs that heap alone: its event then is the newest that the journal lacks, and
 /// reply and cell are those of the machine, and the machine's event leaves the book's part. `None` changes nothing, and comes exactly
 /// where the operation is not local. Constant time, and no memory.
+#[inline(always)]
 pub fn local(cell: &mut HeapCell, op: &Op) -> Option<Reply>
     requires registers { HasRegisters op.now }
     requires idle { cell.old.value.collection ≡ Idle }
@@ -221,6 +222,7 @@ fn int_answer(found: Option<Stored>, answer: Option<Reply>) -> Option<Reply>
 }
 
 /// Stores what the register holds, and answers; `None` where that is not local.
+#[inline(always)]
 fn store(cell: &mut HeapCell, base: Reg, field: u32, value: Reg) -> Option<Reply>
     requires registers { (base.0 < 16) × (value.0 < 16) }
     requires idle { cell.old.value.collection ≡ Idle }
@@ -242,6 +244,7 @@ fn store(cell: &mut HeapCell, base: Reg, field: u32, value: Reg) -> Option<Reply
 }
 
 /// Loads into the register, and answers; `None` where that is not local.
+#[inline(always)]
 fn load(cell: &mut HeapCell, reg: Reg, base: Reg, field: u32) -> Option<Reply>
     requires registers { (reg.0 < 16) × (base.0 < 16) }
     ensures answer { result ≡ load_answer cell.old.value cell.old.pid.0 (held_in cell.old.value.process base.0) field (held_in cell.old.value.process reg.0) }
@@ -260,6 +263,7 @@ fn load(cell: &mut HeapCell, reg: Reg, base: Reg, field: u32) -> Option<Reply>
 }
 
 /// Puts the number, and answers; `None` where that is not local.
+#[inline(always)]
 fn put(cell: &mut HeapCell, base: Reg, field: u32, number: u64) -> Option<Reply>
     requires register { base.0 < 16 }
     requires idle { cell.old.value.collection ≡ Idle }
@@ -287,6 +291,7 @@ fn number_found(found: Option<Stored>) -> u64
 }
 
 /// Reads the number, and answers; `None` where that is not local.
+#[inline(always)]
 fn get(cell: &HeapCell, base: Reg, field: u32) -> Option<Reply>
     requires register { base.0 < 16 }
     ensures { result ≡ get_answer cell.now.value cell.now.pid.0 (held_in cell.now.value.process base.0) field }
@@ -302,6 +307,7 @@ fn get(cell: &HeapCell, base: Reg, field: u32) -> Option<Reply>
 }
 
 /// Has the register hold the reference, and answers; `None` where that is not local, since it held or is to hold a foreign one.
+#[inline(always)]
 fn set(cell: &mut HeapCell, reg: Reg, value: Option<Link>) -> Option<Reply>
     requires register { reg.0 < 16 }
     ensures answer { result ≡ (if is_own cell.old.pid.0 (held_in cell.old.value.process reg.0) && is_own cell.old.pid.0 (option_map name_of value) then Some Done else None) }
@@ -318,6 +324,7 @@ fn set(cell: &mut HeapCell, reg: Reg, value: Option<Link>) -> Option<Reply>
 
 /// Answers the operation, and changes what it changes where it is not refused. `None` changes nothing, and comes where it is not local.
 #[tactic(auto, unfolding(crate::specs::Locals::local_answer, crate::specs::Locals::local_change))]
+#[inline(always)]
 fn apply(cell: &mut HeapCell, op: &Op) -> Option<Reply>
     requires registers { HasRegisters op.now }
     requires idle { cell.old.value.collection ≡ Idle }
