@@ -4,8 +4,8 @@
    is a guest, with a heap and 16 registers, which are its roots. docs/EMBEDDING.md says what a caller owes and what each code means.
 
    Every call answers, and none aborts. A call whose status is not KAFFE_OK has changed nothing.
-   After kaffe_open an allocation alone takes memory, and none where the supply of its process has a body of the type. What a host takes at
-   its opening goes with its rooms, and not with how long it runs. */
+   After kaffe_open an allocation and kaffe_print alone take memory, an allocation none where the supply of its process has a body of the type.
+   What a host takes at its opening goes with its rooms, and not with how long it runs. */
 #ifndef KAFFE_H
 #define KAFFE_H
 #include <stddef.h>
@@ -26,15 +26,19 @@ enum kaffe_status {
                            2^40 or more; or the question has no answer */
     KAFFE_OWN_CALL = 2, /* the operation has a call of its own: no function of this header answers it */
     KAFFE_ENDED = 3,    /* the process has ended */
-    KAFFE_PHASE = 4,    /* a collection of a heap that is touched is open: the functions of this header leave none open */
+    KAFFE_PHASE = 4,    /* a collection of a heap that is touched is open, or of a host that is to be printed: these functions leave none open */
     KAFFE_FULL = 5,     /* the journal has no room for the event, or the process has done 2^64 - 1 operations */
-    KAFFE_NO_MEMORY = 6, /* memory is wanting for the object, and the supply of the process has no body of its type */
+    KAFFE_NO_MEMORY = 6, /* memory is wanting for the object, and the supply of the process has no body of its type; or for printing */
     KAFFE_ORPHAN = 7,   /* the shared heap to be absorbed is not the first orphan */
     KAFFE_NO_CALL = 8,  /* the request names no call */
     KAFFE_NO_HOST = 9,  /* no host could be made: see kaffe_make */
     KAFFE_RESERVED = 10, /* no more events are left than are kept for collections; kaffe_kill asks for none of them */
     KAFFE_OBJECTS = 11, /* as many objects live in the heap as it has room for: collect it, or the kernel heap after kaffe_knew */
-    KAFFE_ITEMS = 12    /* a reference that leads out of its heap may need an exit item or an entry item, and no more is left of these */
+    KAFFE_ITEMS = 12,   /* a reference that leads out of its heap may need an exit item or an entry item, and no more is left of these */
+    KAFFE_FORGOTTEN = 13, /* the host is not printed: fewer events are kept than there are */
+    KAFFE_TOO_MANY = 14, /* the host is not printed: there are more operations than a trace has, 200,000 */
+    KAFFE_TOO_LONG = 15, /* the host is not printed: a check reads no texts so long, 16,777,216 bytes of a trace and 67,108,864 of both */
+    KAFFE_OVER = 16      /* the host is not printed: every process has ended */
 };
 
 /* Why an operation is refused. It counts as done, and has changed no heap, register or charge. */
@@ -63,6 +67,7 @@ enum kaffe_what {
     KAFFE_NAME = 1,    /* seg, serial: an object. A name is never used again. Both 0: null */
     KAFFE_NUMBER = 2,  /* number */
     KAFFE_FREED = 3,   /* what a collection freed: seg objects, number bytes, serial exit items, at shares */
+    KAFFE_TEXTS = 4,   /* what was printed: seg bytes of the trace, number bytes of the report */
     KAFFE_ASKED = 32   /* 32 and more: what an event was asked for, see kaffe_event_at. what - 32 is the number of its call */
 };
 
@@ -107,6 +112,8 @@ enum kaffe_call_number {
     KAFFE_CALL_KILL = 18,
     KAFFE_CALL_ABSORB = 19,
     KAFFE_CALL_TAKE = 20,
+    KAFFE_CALL_PUBLISH = 21,
+    KAFFE_CALL_PRINT = 24,
     KAFFE_ASK_LIVES = 32,
     KAFFE_ASK_BYTES = 33,
     KAFFE_ASK_CHARGE = 34,
@@ -131,6 +138,12 @@ enum kaffe_event_number {
     KAFFE_EVENT_CLOSING = 23 /* the last collection of a run: no function of this header adds it */
 };
 
+/* The texts of a host that was printed. */
+enum kaffe_text {
+    KAFFE_TRACE = 0,
+    KAFFE_REPORT = 1
+};
+
 /* For how much a host has room. The opening takes memory for all of it, and no call takes any for a table after it. */
 typedef struct kaffe_rooms { /* 32 bytes, passed by value */
     uint64_t events;         /* events in the host's whole life: below 2^55, and at least three for each process, one for each shared heap
@@ -150,12 +163,15 @@ typedef struct kaffe_name {
     uint32_t seg, serial;
 } kaffe_name;
 
-/* The five functions that are linked. The caller gives kaffe_size() bytes, aligned as malloc aligns, and has them back after kaffe_close.
-   kaffe_open always leaves something to be closed: a host, or a place without one, whose every call answers KAFFE_NO_HOST. */
+/* The six functions that are linked. The caller gives kaffe_size() bytes, aligned as malloc aligns, and has them back after kaffe_close.
+   kaffe_open always leaves something to be closed: a host, or a place without one, whose every call answers KAFFE_NO_HOST. kaffe_read copies
+   bytes of a text that kaffe_print made, enum kaffe_text, from that place on: as many as there are and as the array has room for, and answers
+   how many. It answers 0 where there is no text or no byte from there on. The pointer may not be NULL, also for a length of 0. */
 size_t kaffe_size(void);
 kaffe_rooms kaffe_rooms_for(uint32_t objects, uint32_t processes, uint32_t heaps);
 void kaffe_open(const uint8_t *text, size_t length, uint32_t type, uint32_t bodies, kaffe_rooms rooms, kaffe_host *at);
 kaffe_answer kaffe_call(kaffe_host *host, kaffe_request request);
+size_t kaffe_read(kaffe_host *host, uint32_t text, size_t from, uint8_t *into, size_t length);
 void kaffe_close(kaffe_host *host);
 
 static inline kaffe_answer kaffe_request_call(kaffe_host *h, uint32_t call, uint32_t pid, uint32_t at, uint32_t to, uint8_t reg,
@@ -315,6 +331,19 @@ static inline int kaffe_event_at(kaffe_host *h, uint64_t number, kaffe_event *ev
 static inline int kaffe_take(kaffe_host *h, kaffe_event *event) {
     kaffe_answer a = kaffe_request_call(h, KAFFE_CALL_TAKE, 0, 0, 0, 0, 0, 0);
     return a.status == KAFFE_OK && a.what == KAFFE_NUMBER && kaffe_event_at(h, a.number, event);
+}
+
+/* Publishes what each process did inside its heap: all that was done is in the journal then. It takes nothing of what is left, and a process that
+   is ended or has nothing unpublished changes nothing. */
+static inline kaffe_answer kaffe_publish(kaffe_host *h) { return kaffe_request_call(h, KAFFE_CALL_PUBLISH, 0, 0, 0, 0, 0, 0); }
+
+/* Publishes, and makes two texts: the trace of all that the host has done, and the report of it, which `kaffe check` accepts one after the
+   other. Answers how many bytes each has, and kaffe_read copies them. They stay, whatever else is called, until the next ones are made or the
+   host is closed. A host can be printed at any moment and any number of times, where it keeps all its events: `kept` of its rooms has to be as
+   many as there are. The texts take memory, and while they are made so do those before, a copy of all events and the machine after them. */
+static inline kaffe_answer kaffe_print(kaffe_host *h) {
+    kaffe_answer published = kaffe_publish(h);
+    return published.status == KAFFE_OK ? kaffe_request_call(h, KAFFE_CALL_PRINT, 0, 0, 0, 0, 0, 0) : published;
 }
 
 /* A host in memory of malloc, of what the text declares, with these rooms. Each process has a supply of that many bodies of the type: as many

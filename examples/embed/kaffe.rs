@@ -69,6 +69,7 @@ unsafe extern "C" {
     fn kaffe_rooms_for(objects: u32, processes: u32, heaps: u32) -> Rooms;
     fn kaffe_open(text: *const u8, length: usize, ty: u32, bodies: u32, rooms: Rooms, at: *mut Opaque);
     fn kaffe_call(host: *mut Opaque, request: Request) -> Answer;
+    fn kaffe_read(host: *mut Opaque, text: u32, from: usize, into: *mut u8, length: usize) -> usize;
     fn kaffe_close(host: *mut Opaque);
 }
 
@@ -94,6 +95,8 @@ mod call {
     pub const KILL: u32 = 18;
     pub const ABSORB: u32 = 19;
     pub const TAKE: u32 = 20;
+    pub const PUBLISH: u32 = 21;
+    pub const PRINT: u32 = 24;
     pub const LIVES: u32 = 32;
     pub const BYTES: u32 = 33;
     pub const CHARGE: u32 = 34;
@@ -112,6 +115,12 @@ mod call {
     pub const CAME: u32 = 47;
 }
 
+/// The numbers of the texts.
+mod text {
+    pub const TRACE: u32 = 0;
+    pub const REPORT: u32 = 1;
+}
+
 /// Processes with their heaps and limits. Dropping it gives all its memory back.
 pub struct Host(Box<[u128]>);
 
@@ -128,7 +137,7 @@ impl Host {
     }
 
     /// A host of what the text declares, with these rooms. Each process has a supply of `bodies` bodies of the type: as many allocations of
-    /// it, refused ones too, take no memory, and no call but an allocation takes any.
+    /// it, refused ones too, take no memory, and no call but an allocation and [`Host::print`] takes any.
     pub fn open_with(text: &str, ty: TypeId, bodies: u32, rooms: Rooms) -> Result<Host, OpenError> {
         // SAFETY: `kaffe_size` asks nothing.
         let size = unsafe { kaffe_size() };
@@ -337,6 +346,29 @@ impl Host {
         let answer = self.send(Request { call: call::TAKE, ..Request::default() });
         let number = (answer.status == 0 && answer.what == 2).then_some(answer.number)?;
         self.event(number).map(|event| Taken { number, event })
+    }
+
+    /// Publishes what each process did inside its heap: all that was done is in the journal then.
+    pub fn publish(&mut self) -> Result<(), Refusal> {
+        self.call(Request { call: call::PUBLISH, ..Request::default() }).map(|_| ())
+    }
+
+    /// Publishes, and prints the trace of all that the host has done and the report of it, which `kaffe check` accepts one after the other.
+    /// The host has to keep all its events. It takes memory for both texts twice, and while it goes on for a copy of all events and for the
+    /// machine after them; the library keeps its own texts until the next are made.
+    pub fn print(&mut self) -> Result<Texts, Refusal> {
+        self.publish()?;
+        let made = self.call(Request { call: call::PRINT, ..Request::default() })?;
+        Ok(Texts { trace: self.read(text::TRACE, made.seg as usize), report: self.read(text::REPORT, made.number as usize) })
+    }
+
+    /// The first bytes of the text, as many as there are and no more than `length`.
+    fn read(&mut self, text: u32, length: usize) -> Vec<u8> {
+        let mut bytes = vec![0u8; length];
+        // SAFETY: in the room is what `kaffe_open` left; pointer and length are those of the bytes, which nobody else uses.
+        let count = unsafe { kaffe_read(self.0.as_mut_ptr().cast(), text, 0, bytes.as_mut_ptr(), bytes.len()) };
+        bytes.truncate(count);
+        bytes
     }
 
     /// The bytes of the kernel heap.

@@ -56,6 +56,13 @@ pub struct Freed {
     pub shares: u32,
 }
 
+/// What a host has printed, as bytes: a trace, and a report that is accepted for it.
+#[derive(Clone, Debug, PartialEq, Eq)]
+pub struct Texts {
+    pub trace: Vec<u8>,
+    pub report: Vec<u8>,
+}
+
 /// What a call lacks. Nothing has changed.
 #[derive(Clone, Copy, Debug, PartialEq, Eq)]
 pub enum Lack {
@@ -66,11 +73,11 @@ pub enum Lack {
     OwnCall,
     /// The process has ended.
     Ended,
-    /// A collection of a heap that is touched is open. The methods leave none open.
+    /// A collection of a heap that is touched is open, or of a host that is to be printed. The methods leave none open.
     Phase,
     /// The journal has no room for the event, or the process has done 2^64 - 1 operations.
     Full,
-    /// Memory is wanting for the object, and the supply of the process has no body of its type.
+    /// Memory is wanting for the object, and the supply of the process has no body of its type; or for printing.
     NoMemory,
     /// The shared heap to be absorbed is not the first orphan.
     Orphan,
@@ -80,6 +87,14 @@ pub enum Lack {
     Objects,
     /// A reference that leads out of its heap may need an exit item or an entry item, and no more is left of these.
     Items,
+    /// The host is not printed: fewer events are kept than there are.
+    Forgotten,
+    /// The host is not printed: there are more operations than a trace has, 200,000.
+    TooMany,
+    /// The host is not printed: a check reads no texts so long, 16,777,216 bytes of a trace and 67,108,864 of both.
+    TooLong,
+    /// The host is not printed: every process has ended.
+    Over,
     /// The library is of another version than this module: it has no such call, or answers a number that this module has not.
     NoCall,
 }
@@ -167,6 +182,10 @@ pub(super) fn lack_of(status: u32) -> Lack {
         10 => Lack::Reserved,
         11 => Lack::Objects,
         12 => Lack::Items,
+        13 => Lack::Forgotten,
+        14 => Lack::TooMany,
+        15 => Lack::TooLong,
+        16 => Lack::Over,
         _ => Lack::NoCall,
     }
 }

@@ -1,4 +1,4 @@
-//! A host for C: five functions over `k_embed`, which `kaffe.h` declares. C gives the memory for a host, and has it back.
+//! A host for C: six functions over `k_embed`, which `kaffe.h` declares. C gives the memory for a host, and has it back.
 #![tactic(auto)]
 
 ghost use Rattle.std.specs.Prelude.{◌≡◌};
@@ -7,9 +7,9 @@ ghost use Rattle.std.specs.Ptr.{lies_at, room_at};
 ghost use Rattle.k_embed.specs.contracts.serving.Slot.{the_row};
 ghost use Rattle.k_embed.specs.declared.serving.Slot.{Slot};
 ghost use Rattle.k_embed.specs.Asked.{AreRoomsFor};
-ghost use Rattle.k_embed.specs.Served.{IsOpened, IsServed};
+ghost use Rattle.k_embed.specs.Served.{IsOpened, IsRead, IsServed};
 
-use k_embed::{Answer, Request, Rooms, Slot, opened, rooms_for, serve};
+use k_embed::{Answer, Request, Rooms, Slot, opened, read, rooms_for, serve};
 use std::alloc::Global;
 
 /// What C has of a host: its address. C never looks behind it.
@@ -59,6 +59,23 @@ pub unsafe extern "C" fn kaffe_call(at: *mut KaffeHost, request: Request) -> Ans
     serve_at(slot, request)
 }
 
+/// Copies bytes of a text that was printed last, of the trace where `text` is 0 and of the report where it is 1: from that place on as many as
+/// there are and as the array has room for. It answers how many, and changes nothing of the host.
+#[unsafe(no_mangle)]
+pub unsafe extern "C" fn kaffe_read(
+    at: *mut KaffeHost,
+    text: u32,
+    from: usize,
+    into: &mut [u8],
+) -> usize
+    ghost g: { Slot }
+    requires* { sem 𝓛 (lies_at the_row full_share at g) }
+    ensures* { sem 𝓛 (lies_at the_row full_share at g) ∗ ⌜ IsRead g text from into.old into.new result ⌝ }
+{
+    let slot: &mut Slot = unsafe { &mut *(at as *mut Slot) };
+    read_at(slot, text, from, into)
+}
+
 /// Lets the host go, with all its memory, and leaves the room.
 #[unsafe(no_mangle)]
 pub unsafe extern "C" fn kaffe_close(at: *mut KaffeHost)
@@ -75,4 +92,10 @@ fn serve_at(slot: &mut Slot, request: Request) -> Answer
     ensures { IsServed slot.old slot.new request result }
 {
     serve(slot, &request)
+}
+
+fn read_at(slot: &mut Slot, text: u32, from: usize, into: &mut [u8]) -> usize
+    ensures { (slot.new ≡ slot.old) × IsRead slot.old text from into.old into.new result }
+{
+    read(slot, text, from, into)
 }

@@ -1,1 +1,4 @@
 pub mod Chronicle
+pub use Rattle.k_print.specs.Printed
+pub use Rattle.k_print.specs.declared.errors.PrintError
+pub use Rattle.k_print.specs.declared.texts.Texts

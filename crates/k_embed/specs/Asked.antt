@@ -1,4 +1,4 @@
--- What a request asks for: an operation, a whole call of another kind, or the next event; and which rooms are asked for.
+-- What a request asks for: an operation, a whole call of another kind, the next event, or texts; and which rooms are asked for.
 use Rattle.std.specs.Prelude.{◌≡◌, ℕ, ◌+◌, ◌*◌, ◌==◌, if◌then◌else◌, Bool, Option, Some, None}
 use Rattle.k_types.specs.declared.names.LimitId.{LimitId}
 use Rattle.k_types.specs.declared.names.Pid.{Pid}
@@ -69,6 +69,14 @@ whole_of q =
 -- whether the request takes the next event out
 abbrev pub is_take : Request → Bool
 is_take q = q.call == 20
+
+-- whether the request publishes what the processes did inside their heaps
+abbrev pub is_publish : Request → Bool
+is_publish q = q.call == 21
+
+-- whether the request prints the host
+abbrev pub is_print : Request → Bool
+is_print q = q.call == 24
 
 -- the rooms that are asked for
 abbrev pub rooms_of : Rooms → HostRooms

@@ -1,5 +1,6 @@
 -- What a call of a host is answered, in numbers.
-use Rattle.std.specs.Prelude.{◌≡◌, ℕ, ◌==◌, nat_lt, if◌then◌else◌, IsFalse, IsTrue, Option, Some, None, IfNone, IfSome, MatchOption, length, option_map, slice_get, Result, IfErr, IfOk, OnErr, OnOk}
+use Rattle.std.specs.Global.{Global}
+use Rattle.std.specs.Prelude.{◌≡◌, ℕ, ◌==◌, nat_lt, if◌then◌else◌, IsFalse, IsTrue, List, Option, Some, None, IfNone, IfSome, MatchOption, length, option_map, slice_get, Result, IfErr, IfOk, OnErr, OnOk}
 use Rattle.k_types.specs.declared.event.Event.{Event}
 use Rattle.k_types.specs.declared.names.Pid.{Pid}
 use Rattle.k_types.specs.declared.names.TypeId.{TypeId}
@@ -28,9 +29,11 @@ use Rattle.k_embed.specs.declared.messages.Answer.{Answer}
 use Rattle.k_embed.specs.declared.messages.Request.{Request}
 use Rattle.k_embed.specs.declared.serving.Slot.{Slot}
 use Rattle.k_embed.specs.declared.messages.Rooms.{Rooms}
-use Rattle.k_embed.specs.Asked.{is_take, operation_of, pid_of, rooms_of, whole_of}
+use Rattle.k_embed.specs.Asked.{is_print, is_publish, is_take, operation_of, pid_of, rooms_of, whole_of}
 use Rattle.k_embed.specs.Codes.{line_of, of_event, of_found, of_held, of_listed, of_no_host, of_number, of_result, of_told, reason_of}
 use Rattle.k_embed.specs.Events.{asked_of, of_seen, of_taken}
+use Rattle.k_embed.specs.Texts.{IsCopied, IsPrinted, IsPublished, bytes_of}
+use Rattle.k_chronicle.specs.Texts.{Texts}
 
 -- the answer is that of the machine's event, with its reply, or of what is lacking; and then nothing has changed
 pub record IsActed (old new : KeeperValue) (pid : Pid) (op : Op) (answer : Answer) : Type 0 where
@@ -128,10 +131,11 @@ pub record IsAnswered (old new : KeeperValue) (q : Request) (answer : Answer) : 
   pub same : new ≡ old
   pub told : answer ≡ of_told (told_of old q)
 
--- where the request takes the next event out, that is what was done, and else it is answered
+-- where the request takes the next event out or publishes, that is what was done, and else it is answered
 pub record IsServedRest (old new : KeeperValue) (q : Request) (answer : Answer) : Type 0 where
   pub taken : IsTrue (is_take q) → IsTaken old new answer
-  pub answered : IsFalse (is_take q) → IsAnswered old new q answer
+  pub published : IsTrue (is_publish q) → IsPublished old new answer
+  pub answered : IsFalse (is_take q) → IsFalse (is_publish q) → IsAnswered old new q answer
 
 -- where the request asks for a collection, an end or an absorption, that is what was done on the host
 abbrev pub IsServedElse : KeeperValue → KeeperValue → Request → Answer → Type 0
@@ -141,11 +145,16 @@ IsServedElse old new q answer = MatchOption (whole_of q) (IsServedRest old new q
 abbrev pub IsServedOn : KeeperValue → KeeperValue → Request → Answer → Type 0
 IsServedOn old new q answer = MatchOption (operation_of q) (IsServedElse old new q answer) (λ op. IsActed old new (pid_of q) op answer)
 
+-- where the request prints the host, that is what was done, and the host is as it was; and else the texts are as they were
+pub record IsServedWith (old new : KeeperValue) (kept now : Option Texts) (q : Request) (answer : Answer) : Type 0 where
+  pub printed : IsTrue (is_print q) → (new ≡ old) × IsPrinted old.host kept now answer
+  pub served : IsFalse (is_print q) → (now ≡ kept) × IsServedOn old new q answer
+
 -- there is a host in the place still, on which the request was served
-pub record IsServedIn (old : KeeperValue) (place : Slot) (q : Request) (answer : Answer) : Type 0 where
+pub record IsServedIn (old : KeeperValue) (kept : Option Texts) (place : Slot) (q : Request) (answer : Answer) : Type 0 where
   pub now : KeeperValue
   pub there : place.host ≡ Some now
-  pub served : IsServedOn old now q answer
+  pub served : IsServedWith old now kept place.texts q answer
 
 -- there is no host in the place: nothing has changed, and the answer is the line and the reason
 pub record IsServedWithout (old new : Slot) (answer : Answer) : Type 0 where
@@ -154,11 +163,15 @@ pub record IsServedWithout (old new : Slot) (answer : Answer) : Type 0 where
 
 -- the request was served on the host in the place, or there is none
 abbrev pub IsServed : Slot → Slot → Request → Answer → Type 0
-IsServed old new q answer = MatchOption old.host (IsServedWithout old new answer) (λ h. IsServedIn h new q answer)
+IsServed old new q answer = MatchOption old.host (IsServedWithout old new answer) (λ h. IsServedIn h old.texts new q answer)
+
+-- bytes of a text that was printed in the place stand at the front of the array now, so many as the answer says
+abbrev pub IsRead : Slot → ℕ → ℕ → List ℕ → List ℕ → ℕ → Type 0
+IsRead place which from = IsCopied (bytes_of place.texts which) from
 
 -- a place without a host, for that cause
-abbrev pub empty_for : OpenError → Slot
-empty_for why = record { host = None; line = line_of why; reason = reason_of why }
+abbrev pub empty_for : Global → OpenError → Slot
+empty_for alloc why = record { alloc = alloc; host = None; line = line_of why; reason = reason_of why; texts = None }
 
 -- no host of what the bytes declare is made, and line and reason are those of the cause
 pub record HasNoHost (bytes : Text) (ty : TypeId) (bodies : ℕ) (rooms : Rooms) (line reason : ℕ) : Type 0 where
@@ -167,7 +180,9 @@ pub record HasNoHost (bytes : Text) (ty : TypeId) (bodies : ℕ) (rooms : Rooms)
   pub line_is : line ≡ line_of why
   pub reason_is : reason ≡ reason_of why
 
--- in the place there is a host of what the bytes declare, before its first event, or the line and the reason why there is none
-abbrev pub IsOpened : Text → ℕ → ℕ → Rooms → Slot → Type 0
-IsOpened bytes ty bodies rooms place =
-    MatchOption place.host (HasNoHost bytes (record { 0 = ty }) bodies rooms place.line place.reason) (λ h. HasOpened bytes (record { 0 = ty }) bodies (rooms_of rooms) h)
+-- in the place there is a host of what the bytes declare, before its first event, or the line and the reason why there is none; and nothing
+-- was printed there
+pub record IsOpened (bytes : Text) (ty bodies : ℕ) (rooms : Rooms) (place : Slot) : Type 0 where
+  pub host :
+      MatchOption place.host (HasNoHost bytes (record { 0 = ty }) bodies rooms place.line place.reason) (λ h. HasOpened bytes (record { 0 = ty }) bodies (rooms_of rooms) h)
+  pub unprinted : place.texts ≡ None

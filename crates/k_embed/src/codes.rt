@@ -7,7 +7,7 @@ use k_keeper::HostError;
 use k_types::{Event, Fault, Name, Reply};
 
 /// An answer that says only this.
-fn plain(status: u32, fault: u32, at: u32) -> Answer
+pub(crate) fn plain(status: u32, fault: u32, at: u32) -> Answer
     ensures { result ≡ plain status fault at }
 {
     Answer {

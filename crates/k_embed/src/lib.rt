@@ -1,7 +1,8 @@
 //! A host behind one call: a request of plain numbers, and an answer of plain numbers.
 //!
 //! [`serve`] does what a [`Request`] asks of a host, and says in an [`Answer`] what came of it. It is what a library for C exports, since
-//! enums and handles do not cross to C, and numbers in a struct do.
+//! enums and handles do not cross to C, and numbers in a struct do. One request prints the host, and [`read`] copies
+//! the bytes of what was printed.
 #![tactic(auto)]
 
 mod asking;
@@ -10,8 +11,10 @@ mod doing;
 mod events;
 mod messages;
 mod serving;
+mod texts;
 
 pub use doing::Whole;
 pub use events::take_next;
 pub use messages::{Answer, Request, Rooms};
-pub use serving::{Slot, act, act_whole, opened, rooms_for, serve};
+pub use serving::{Slot, act, act_whole, opened, read, rooms_for, serve};
+pub use texts::{print, publish};

@@ -2,7 +2,7 @@
 ghost use Rattle.std.specs.Prelude.{◌≡◌};
 ghost use Rattle.k_embed.specs.Asked.{AreRoomsFor, rooms_of};
 ghost use Rattle.k_embed.specs.Codes.{of_told};
-ghost use Rattle.k_embed.specs.Served.{IsActed, IsDoneWhole, IsOpened, IsServed, IsServedOn, IsServedRest, empty_for, told_of};
+ghost use Rattle.k_embed.specs.Served.{IsActed, IsDoneWhole, IsOpened, IsRead, IsServed, IsServedOn, IsServedRest, IsServedWith, empty_for, told_of};
 
 use crate::asking::ask;
 use crate::codes::{lacking_host, no_call, of_event};
@@ -11,6 +11,8 @@ use crate::doing::{
 };
 use crate::events::{is_take, take_next};
 use crate::messages::{Answer, Request, Rooms};
+use crate::texts::{copy_text, is_print, is_publish, print, publish};
+use k_chronicle::Texts;
 use k_keeper::{Keeper, OpenError};
 use k_types::{Op, Pid, TypeId};
 use std::alloc::Global;
@@ -19,14 +21,17 @@ use std::alloc::Global;
 /// number of its reason; or line 0, and 1 where memory ran out and 2 where the terms are not fit.
 #[derive(Drop)]
 pub struct Slot {
+    pub alloc: Global,
     pub host: Option<Keeper>,
     pub line: u32,
     pub reason: u32,
+    /// What was printed last.
+    pub texts: Option<Texts>,
 }
 
 /// A place with no host, and why.
-fn empty(why: OpenError) -> Slot
-    ensures { result ≡ empty_for why }
+fn empty(alloc: Global, why: OpenError) -> Slot
+    ensures { result ≡ empty_for alloc why }
 {
     let (line, reason) = match why {
         OpenError::Bad { line, reason } => (line, reason),
@@ -34,9 +39,11 @@ fn empty(why: OpenError) -> Slot
         OpenError::Terms => (0, 2),
     };
     Slot {
+        alloc,
         host: None,
         line,
         reason,
+        texts: None,
     }
 }
 
@@ -77,11 +84,13 @@ pub fn opened(alloc: Global, text: &[u8], ty: u32, bodies: u32, rooms: Rooms) ->
 {
     match Keeper::read(alloc, text, TypeId(ty), bodies, rooms_of(rooms)) {
         Ok(host) => Slot {
+            alloc,
             host: Some(host),
             line: 0,
             reason: 0,
+            texts: None,
         },
-        Err(why) => empty(why),
+        Err(why) => empty(alloc, why),
     }
 }
 
@@ -98,10 +107,19 @@ pub fn act(host: &mut Keeper, pid: Pid, op: &Op) -> Answer
 pub fn serve(slot: &mut Slot, request: &Request) -> Answer
     ensures { IsServed slot.old slot.new request.now result }
 {
+    let alloc = slot.alloc;
     match &mut slot.host {
-        Some(host) => serve_host(host, request),
+        Some(host) => serve_host(alloc, host, &mut slot.texts, request),
         None => lacking_host(slot.line, slot.reason),
     }
+}
+
+/// Copies bytes of the trace that was printed last in that place, where `which` is 0, or of its report, where it is 1: from that byte on as many
+/// as there are and as the array has room for. It answers how many, and 0 where nothing was printed. Time goes with them.
+pub fn read(slot: &Slot, which: u32, from: usize, into: &mut [u8]) -> usize
+    ensures { IsRead slot.now which from into.old into.new result }
+{
+    copy_text(&slot.texts, which, from, into)
 }
 
 /// Does the collection, end or absorption, and answers in numbers.
@@ -122,7 +140,7 @@ fn answered(host: &Keeper, request: &Request) -> Answer
     }
 }
 
-/// Takes the next event out, where the request asks for that, or answers a question.
+/// Takes the next event out or publishes, where the request asks for that, or answers a question.
 #[inline(always)]
 fn serve_rest(host: &mut Keeper, request: &Request) -> Answer
     ensures { IsServedRest host.old host.new request.now result }
@@ -130,13 +148,21 @@ fn serve_rest(host: &mut Keeper, request: &Request) -> Answer
     if is_take(request) {
         return take_next(host);
     }
+    if is_publish(request) {
+        return publish(host);
+    }
     answered(host, request)
 }
 
 /// Does what the request asks, and answers what came of it. What is asked for most is each a call in which the operation, or the question
 /// what a process is charged, is known.
-fn serve_host(host: &mut Keeper, request: &Request) -> Answer
-    ensures { IsServedOn host.old host.new request.now result }
+fn serve_host(
+    alloc: Global,
+    host: &mut Keeper,
+    kept: &mut Option<Texts>,
+    request: &Request,
+) -> Answer
+    ensures { IsServedWith host.old host.new kept.old kept.new request.now result }
 {
     let pid = Pid(request.pid);
     match request.call {
@@ -147,13 +173,28 @@ fn serve_host(host: &mut Keeper, request: &Request) -> Answer
         8 => act(host, pid, &put_by(request)),
         9 => act(host, pid, &get_by(request)),
         34 => serve_rest(host, request),
-        _ => serve_seldom(host, request),
+        _ => serve_seldom(alloc, host, kept, request),
     }
 }
 
-/// Does what the request asks, whatever that is, and answers what came of it.
+/// Prints the host, where the request asks for that, or does what else it asks.
 #[inline(never)]
-fn serve_seldom(host: &mut Keeper, request: &Request) -> Answer
+fn serve_seldom(
+    alloc: Global,
+    host: &mut Keeper,
+    kept: &mut Option<Texts>,
+    request: &Request,
+) -> Answer
+    ensures { IsServedWith host.old host.new kept.old kept.new request.now result }
+{
+    if is_print(request) {
+        return print(alloc, host, kept);
+    }
+    serve_any(host, request)
+}
+
+/// Does what the request asks of the host alone, whatever that is, and answers what came of it.
+fn serve_any(host: &mut Keeper, request: &Request) -> Answer
     ensures { IsServedOn host.old host.new request.now result }
 {
     let pid = Pid(request.pid);

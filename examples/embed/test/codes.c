@@ -1,41 +1,6 @@
-/* Each answer code that the functions of kaffe.h can give, and bad use: the call, the answer due, and that nothing has changed. */
-#include "../kaffe.h"
-#include <inttypes.h>
-#include <stdio.h>
-
-static int failures;
-
-static void due(const char *what, uint64_t said, uint64_t wanted) {
-    if (said == wanted) return;
-    failures++;
-    fprintf(stderr, "codes: %s: %" PRIu64 ", and %" PRIu64 " is due\n", what, said, wanted);
-}
-
-#define STATUS(call, wanted) due(#call, (call).status, wanted)
-#define FAULT(call, wanted) due(#call, fault_of(call), wanted)
-
-/* The fault of an operation that is done, with the limit or shared heap that it names in the higher half. */
-static uint64_t fault_of(kaffe_answer a) { return a.status ? 1000 + a.status : a.fault + ((uint64_t)a.at << 32); }
-static uint64_t named(enum kaffe_fault fault, uint64_t at) { return (uint64_t)fault + (at << 32); }
-
-enum { HOST, GUEST, OTHER, POOR, PROCESSES };
-enum { ROOT, ALL, LOW };
-enum { NODE, LEAF };
-enum { ONE, TWO };
-static const char *DECLARED = "kaffe 1\nkernel 150 2\ntype Node ref ref int\ntype Leaf int\nlimit root 2000\nlimit all root hard 800\n"
-                              "limit low all soft 90\nproc host root\nproc guest all\nproc other all\nproc poor low\nshared one\nshared two\n";
-
-enum { SHARED_HEAPS = 2, ROOMY = 100 };
-
-static kaffe_host *opened_with(uint32_t bodies, kaffe_rooms rooms) {
-    kaffe_answer why;
-    kaffe_host *h = kaffe_make_with(DECLARED, NODE, bodies, &rooms, &why);
-    if (!h) {
-        fprintf(stderr, "codes: no host: line %" PRIu32 ", reason %" PRIu32 "\n", why.seg, why.at);
-        exit(1);
-    }
-    return h;
-}
+/* Each answer code that the functions of kaffe.h can give, but for printing, which texts.c tries, and bad use: the call, the answer due, and
+   that nothing has changed. */
+#include "due.h"
 
 static kaffe_host *opened(uint32_t bodies, uint32_t events) {
     kaffe_rooms rooms = kaffe_rooms_for(ROOMY, PROCESSES, SHARED_HEAPS);
@@ -95,6 +60,10 @@ static void openings(void) {
     kaffe_event event;
     due("an event to be taken", (uint64_t)kaffe_take(place, &event), 0);
     STATUS(kaffe_kill(place, 0), KAFFE_NO_HOST);
+    STATUS(kaffe_print(place), KAFFE_NO_HOST);
+    uint8_t byte = 7;
+    due("bytes of no text", kaffe_read(place, KAFFE_TRACE, 0, &byte, 1), 0);
+    due("the byte", byte, 7);
     kaffe_close(place);
     free(place);
 }

@@ -1,14 +1,15 @@
 """The numbers of `kaffe.h`, and requests and answers as they cross to C, for `machine.py` and `model.py`."""
 import struct
 
-UNKNOWN, ENDED, ORPHAN, NO_CALL, RESERVED, OBJECTS, ITEMS = 1, 3, 7, 8, 10, 11, 12
-NOTHING, NAME, NUMBER, FREED = range(4)
+UNKNOWN, ENDED, ORPHAN, NO_CALL, RESERVED, OBJECTS, ITEMS, FORGOTTEN, OVER = 1, 3, 7, 8, 10, 11, 12, 13, 16
+NOTHING, NAME, NUMBER, FREED, TEXTS = range(5)
 FAULTS = ("Done Null Foreign NotSharer NoField WrongKind Frozen Segv NotPopulating NotFrozen Taken LimitFull KernelFull "
           "ProcNotBelow LimitNotBelow InUse").split()
 FAULT = {name: number for number, name in enumerate(FAULTS)}
 (NEW, KNEW, SNEW, STORE, LOAD, MOVE, CLEAR, DIR, PUT, GET, SHARE, FREEZE, ATTACH, KILL_BY, RESIZE) = range(15)
-COLLECT, KCOLLECT, KILL, ABSORB, TAKE = 16, 17, 18, 19, 20
+COLLECT, KCOLLECT, KILL, ABSORB, TAKE, PUBLISH = 16, 17, 18, 19, 20, 21
 END_OF_A_COLLECTION = 22
+PRINT = 24
 (LIVES, BYTES, CHARGE, USE, MAX, REGISTER, DONE, EVENTS, BODIES, KERNEL_BYTES, FIRST_ORPHAN, LEFT, FREED_COUNT, FREED_NAME,
  EVENT, CAME) = range(32, 48)
 ASKED = 32

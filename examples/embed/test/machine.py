@@ -5,10 +5,11 @@ whole, and what each process did inside its heap beside it until it is published
 """
 from dataclasses import dataclass
 
-from codes import (UNKNOWN, ENDED, ORPHAN, NO_CALL, RESERVED, OBJECTS, ITEMS, NAME, NUMBER, FREED, FAULT, NEW, KNEW, SNEW, STORE, LOAD,
-                   MOVE, CLEAR, DIR, PUT, GET, SHARE, FREEZE, ATTACH, KILL_BY, RESIZE, COLLECT, KCOLLECT, KILL, ABSORB, TAKE,
+from codes import (UNKNOWN, ENDED, ORPHAN, NO_CALL, RESERVED, OBJECTS, ITEMS, FORGOTTEN, OVER, NAME, NUMBER, FREED, TEXTS, FAULT, NEW, KNEW, SNEW, STORE, LOAD,
+                   MOVE, CLEAR, DIR, PUT, GET, SHARE, FREEZE, ATTACH, KILL_BY, RESIZE, COLLECT, KCOLLECT, KILL, ABSORB, TAKE, PUBLISH, PRINT,
                    END_OF_A_COLLECTION, EVENT, CAME, REGISTERS_OF, REGISTERS, LIVES, BYTES, CHARGE, USE, MAX, REGISTER, DONE, EVENTS,
                    BODIES, KERNEL_BYTES, FIRST_ORPHAN, LEFT, FREED_COUNT, FREED_NAME, answer, asked)
+from printing import texts
 
 KERNEL = ("kernel", 0)
 MAXIMUM_BELOW = 1 << 40
@@ -35,7 +36,8 @@ class Rooms:
 class Host:
     """The one-thread machine of one declaration, with a supply of bodies of one type for each process."""
 
-    def __init__(self, ceiling, directory, types, limits, procs, shared, of_type, bodies, rooms):
+    def __init__(self, declared, ceiling, directory, types, limits, procs, shared, of_type, bodies, rooms):
+        self.declared = declared
         self.ceiling, self.types, self.limits, self.procs, self.of_type = ceiling, types, limits, procs, of_type
         self.shared_count = shared
         self.rooms = rooms
@@ -54,6 +56,7 @@ class Host:
         self.shares = set()
         self.phases = [("unmade",)] * shared
         self.freed = []
+        self.texts = b"", b""
 
     # Owners, bytes, charges and limits.
     def owner(self, name):
@@ -339,6 +342,21 @@ class Host:
         self.journal += self.tails[p]
         self.tails[p] = []
 
+    def publish_all(self):
+        for p in range(len(self.procs)):
+            self.publish(p)
+        return answer()
+
+    def print(self):
+        """Makes both texts, of a host that has published; those before stay where it can't be printed."""
+        if len(self.journal) > self.rooms.kept:
+            return answer(status=FORGOTTEN)
+        if len(self.ended) == len(self.procs):
+            return answer(status=OVER)
+        self.texts = texts(self)
+        trace, report = self.texts
+        return answer(what=TEXTS, name=(len(trace), 0), number=len(report))
+
     def add(self, q, came):
         """The event of the process's call, after what it did inside its heap."""
         self.publish(q.pid)
@@ -486,6 +504,10 @@ class Host:
             return self.serve_whole(q)
         if q.call == TAKE:
             return self.take()
+        if q.call == PUBLISH:
+            return self.publish_all()
+        if q.call == PRINT:
+            return self.print()
         if LIVES <= q.call <= CAME:
             return self.ask(q)
         return answer(status=NO_CALL)

@@ -2,8 +2,8 @@
 
     model.py SEED CALLS > calls.bin
 
-`replay.c` reads what this prints, does each call through the C functions, and compares each answer, and the names of what the last
-collection freed.
+`replay.c` reads what this prints, does each call through the C functions, and compares each answer, the names of what the last
+collection freed, and both texts of a host that is printed.
 """
 import random
 import struct
@@ -13,18 +13,18 @@ from dataclasses import astuple
 sys.dont_write_bytecode = True
 
 from codes import (ABSORB, ATTACH, CAME, CLEAR, COLLECT, DIR, EVENT, FREED_NAME, FREEZE, GET, KCOLLECT, KILL, KILL_BY, KNEW, LIVES,  # noqa: E402
-                   LOAD, MOVE, NEW, PUT, RESIZE, SHARE, SNEW, STORE, TAKE, Request)
+                   LOAD, MOVE, NEW, PRINT, PUBLISH, PUT, RESIZE, SHARE, SNEW, STORE, TAKE, Request)
 from machine import Host, Refused, Rooms  # noqa: E402
 
 CALLS_OF_A_HOST = [200, 600, 2000]
 AIMED = 0.6
-NAMES_COMPARED = 0.1
+NAMES_COMPARED, TEXTS_COMPARED = 0.1, 0.005
 
 
 def reserves(limits, parent, most):
     """Whether a hard limit of that maximum fits under the parent, before anything is allocated."""
     try:
-        Host(0, 0, [], limits, [], 0, 0, 0, Rooms(0, 0, 0, 0, 0, 0, 0)).fits_at(parent, most)
+        Host([], 0, 0, [], limits, [], 0, 0, 0, Rooms(0, 0, 0, 0, 0, 0, 0)).fits_at(parent, most)
         return True
     except Refused:
         return False
@@ -49,7 +49,7 @@ def declaration(rng, events):
     text = ("\n".join(lines) + "\n").encode()
     rooms = some_rooms(rng, events, 3 * len(procs) + shared + 3, len(procs))
     head = struct.pack("<3IQ6I", len(text), of_type, bodies, *astuple(rooms)) + text
-    return head, Host(ceiling, directory, types, limits, procs, shared, of_type, bodies, rooms)
+    return head, Host(lines, ceiling, directory, types, limits, procs, shared, of_type, bodies, rooms)
 
 
 def some_rooms(rng, events, fewest, procs):
@@ -72,12 +72,12 @@ def some_call(rng, host):
     """A random request, which mostly names what is declared."""
     odd = rng.random() < 0.02
     call = rng.choices(
-        [NEW, KNEW, SNEW, STORE, LOAD, MOVE, CLEAR, DIR, PUT, GET, SHARE, FREEZE, ATTACH, KILL_BY, RESIZE, COLLECT, KCOLLECT, KILL, ABSORB, TAKE, None],
-        [60, 12, 25, 110, 70, 20, 15, 15, 30, 30, 6, 6, 14, 1, 14, 6, 4, 0.5, 2, 40, 70])[0]
+        [NEW, KNEW, SNEW, STORE, LOAD, MOVE, CLEAR, DIR, PUT, GET, SHARE, FREEZE, ATTACH, KILL_BY, RESIZE, COLLECT, KCOLLECT, KILL, ABSORB, TAKE, PUBLISH, PRINT, None],
+        [60, 12, 25, 110, 70, 20, 15, 15, 30, 30, 6, 6, 14, 1, 14, 6, 4, 0.5, 2, 40, 4, 2, 70])[0]
     if call is None:
         call = rng.choice(range(LIVES, CAME + 1))
     if odd and rng.random() < 0.2:
-        call = rng.choice([15, 21, 22, 31, 48, 1 << 31])
+        call = rng.choice([15, 22, 23, 31, 48, 1 << 31])
     pid = rng.randrange(len(host.procs) + odd)
     at = rng.randrange(4) if rng.random() < 0.9 else rng.choice([0, 5, 16, (1 << 32) - 1])
     if call in (NEW, KNEW):
@@ -137,8 +137,13 @@ def main():
             q = some_call(rng, host)
             if rng.random() < AIMED:
                 q = aimed(rng, host, q)
+            if q.call == PRINT:
+                published = Request(PUBLISH)
+                out.write(b"C" + published.packed() + host.serve(published))
             due = host.serve(q)
             out.write(b"C" + q.packed() + due)
+            if q.call == PRINT or rng.random() < TEXTS_COMPARED:
+                out.write(b"T" + b"".join(struct.pack("<2I", len(text), rng.randrange(1, len(text) + 20)) + text for text in host.texts))
             if q.call in (COLLECT, KCOLLECT) or rng.random() < NAMES_COMPARED:
                 out.write(b"F" + struct.pack("<I", len(host.freed)) + b"".join(struct.pack("<2I", *name) for name in host.freed))
         calls -= each

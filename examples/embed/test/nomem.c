@@ -1,6 +1,6 @@
 /* Want of memory at each allocation of the opening in turn, at that one alone and from that one on: no host is made, and all that was taken is
-   given back. After the opening a call takes memory only for an object of which the supply has no body, and where it is refused nothing has
-   changed. Linked with -Wl,--wrap=malloc,--wrap=realloc,--wrap=free. */
+   given back. After the opening a call takes memory only for an object of which the supply has no body and for printing, and where it is refused
+   nothing has changed. Linked with -Wl,--wrap=malloc,--wrap=realloc,--wrap=free. */
 #include "../kaffe.h"
 #include <stdio.h>
 
@@ -98,6 +98,32 @@ static int are_objects_answered(kaffe_host *h) {
     return is_object_answered(h, node);
 }
 
+/* Want of memory at each allocation of printing in turn is answered, and the texts before stay; they go with the host. */
+static int is_printing_answered(kaffe_host *h) {
+    uint8_t before[4096], after[4096];
+    kaffe_answer a = kaffe_print(h);
+    if (a.status != KAFFE_OK || a.number > sizeof before) return 0;
+    size_t length = (size_t)a.number;
+    kaffe_read(h, KAFFE_REPORT, 0, before, length);
+    for (is_alone = 0; is_alone < 2; is_alone++) {
+        kaffe_clear(h, 0, 3);
+        kaffe_publish(h);
+        long n = 0;
+        for (;; n++) {
+            taken = 0;
+            refused_at = n;
+            a = kaffe_call(h, (kaffe_request){KAFFE_CALL_PRINT, 0, 0, 0, 0, 0, 0, 0, 0, 0});
+            refused_at = -1;
+            if (a.status == KAFFE_OK) break;
+            if (a.status != KAFFE_NO_MEMORY) return 0;
+            if (kaffe_read(h, KAFFE_REPORT, 0, after, sizeof after) != length || memcmp(before, after, length) != 0) return 0;
+        }
+        length = (size_t)a.number;
+        if (n == 0 || kaffe_read(h, KAFFE_REPORT, 0, before, sizeof before) != length) return 0;
+    }
+    return 1;
+}
+
 /* Calls of each kind, of which none takes memory: the supply has a body for each allocation. */
 static int is_served(kaffe_host *h) {
     taken = 0;
@@ -127,10 +153,11 @@ int main(void) {
     if (live != 0) return fprintf(stderr, "nomem: memory is left\n"), 1;
     h = opened(-1, &why);
     if (!are_objects_answered(h)) return fprintf(stderr, "nomem: want of memory for an object is not answered\n"), 1;
+    if (!is_printing_answered(h)) return fprintf(stderr, "nomem: want of memory for printing is not answered\n"), 1;
     kaffe_free(h);
-    if (live != 0) return fprintf(stderr, "nomem: memory for objects is left\n"), 1;
+    if (live != 0) return fprintf(stderr, "nomem: memory for objects or texts is left\n"), 1;
     for (is_alone = 0; is_alone < 2; is_alone++)
         if (!is_each_answered(allocations)) return 1;
-    printf("want of memory at each of the %ld allocations of an opening, and at those of an object, is answered\n", allocations);
+    printf("want of memory at each of the %ld allocations of an opening, and at those of an object and of printing, is answered\n", allocations);
     return 0;
 }

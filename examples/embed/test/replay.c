@@ -1,5 +1,5 @@
-/* Does the calls that model.py made, and compares each answer with the one that the model gave, and the names of
-   what was freed with the model's. It reads them on standard input. */
+/* Does the calls that model.py made, and compares each answer with the one that the model gave, and the names of what was freed and the texts
+   of a printed host with the model's. It reads them on standard input. */
 #include "../kaffe.h"
 #include <inttypes.h>
 #include <stdio.h>
@@ -48,6 +48,25 @@ static int same_freed(kaffe_host *h) {
     return same;
 }
 
+/* Whether a text that was printed, read in pieces of some size, is the one that the model gave. */
+static int same_text(kaffe_host *h, enum kaffe_text text) {
+    uint32_t head[2]; /* its length, and that of a piece */
+    need(head, sizeof head);
+    uint8_t *due = (uint8_t *)malloc((size_t)head[0] + 1), *piece = (uint8_t *)malloc((size_t)head[1] + 1);
+    if (!due || !piece) exit(2);
+    need(due, head[0]);
+    size_t from = 0;
+    int same = 1;
+    for (size_t count = 1; same && count > 0; from += count) {
+        piece[head[1]] = 7;
+        count = kaffe_read(h, text, from, piece, head[1]);
+        same = count <= head[1] && from + count <= head[0] && memcmp(piece, due + from, count) == 0 && piece[head[1]] == 7;
+    }
+    free(due);
+    free(piece);
+    return same && from == head[0];
+}
+
 static void print(const char *who, kaffe_answer a) {
     fprintf(stderr, "  %-8s status %" PRIu32 " fault %" PRIu32 " at %" PRIu32 " what %" PRIu32 " seg %" PRIu32 " serial %" PRIu32 " number %" PRIu64 "\n", who,
             a.status, a.fault, a.at, a.what, a.seg, a.serial, a.number);
@@ -55,7 +74,7 @@ static void print(const char *who, kaffe_answer a) {
 
 int main(void) {
     kaffe_host *h = NULL;
-    unsigned long calls = 0, hosts = 0, lacks = 0, faults = 0, lists = 0;
+    unsigned long calls = 0, hosts = 0, lacks = 0, faults = 0, lists = 0, texts = 0;
     for (int tag; (tag = getchar()) != EOF;) {
         if (tag == 'O') {
             h = open_next();
@@ -69,6 +88,13 @@ int main(void) {
                 fprintf(stderr, "replay: after call %lu the names of what was freed differ\n", calls);
                 return 1;
             }
+        } else if (tag == 'T') {
+            int same = same_text(h, KAFFE_TRACE);
+            if (!same_text(h, KAFFE_REPORT) || !same) {
+                fprintf(stderr, "replay: after call %lu what was printed differs\n", calls);
+                return 1;
+            }
+            texts++;
         } else {
             kaffe_request q;
             kaffe_answer due, said;
@@ -87,6 +113,7 @@ int main(void) {
             }
         }
     }
-    printf("%lu calls in %lu hosts, %lu lacking and %lu refused, and %lu lists of freed names: each answer is the model's\n", calls, hosts, lacks, faults, lists);
+    printf("%lu calls in %lu hosts, %lu lacking and %lu refused, %lu lists of freed names and %lu pairs of texts: each is the model's\n", calls, hosts, lacks,
+           faults, lists, texts);
     return calls == 0;
 }
