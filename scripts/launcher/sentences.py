@@ -5,7 +5,7 @@ docs/MANUAL.md has the same sentences in its tables: scripts/manual writes them 
 from collections import namedtuple
 
 # The line that the program, and so the launcher, writes where the words are no command: the text is that of
-# crates/k_top/src/texts.rt.
+# crates/k_answers/src/texts.rt.
 USAGE = "usage: kaffe run | replay | check | big N | watch K | work | snap | audit | tree"
 
 # What an exit status, a reason or a fault means, and what to do about it.

@@ -1,15 +1,6 @@
-pub mod Answered
-pub mod Contract
-pub mod Decided
-pub mod Handed
-pub mod Lines
-pub mod Lists
-pub mod Meanings
-pub mod Ranges
 pub mod Reports
 pub mod Runs
 pub mod Scripts
 pub mod Snaps
 pub mod Workloads
 pub mod Works
-pub mod Written

@@ -6,16 +6,17 @@ use Rattle.k_types.specs.Bounds.{most_trace_bytes}
 use Rattle.k_run.specs.k_outcome.Ends.{EndValue, journal_of}
 use Rattle.k_trace.specs.Named.{NamedTrace}
 use Rattle.k_words.specs.Words.{Text}
-use Rattle.k_top.specs.declared.run_error.RunError.{RunError}
-use Rattle.k_top.specs.declared.run_error.RunError.TheVariants.{NoMemory, Unread, Bad}
-use Rattle.k_top.specs.declared.status.Status.{Status}
-use Rattle.k_top.specs.declared.status.Status.TheVariants.{Good}
-use Rattle.k_top.specs.Ends.{Input, Output}
-use Rattle.k_top.specs.Parts.{IsWritten, TellsOfBytes, TellsOfSource}
-use Rattle.k_top.specs.Reports.{IsFileReport, IsReportOf, IsSomeReport, IsWatchedReport}
-use Rattle.k_top.specs.Samples.{samples_text}
+use Rattle.k_answers.specs.declared.run_error.RunError.{RunError}
+use Rattle.k_answers.specs.declared.run_error.RunError.TheVariants.{NoMemory, Unread, Bad}
+use Rattle.k_answers.specs.declared.status.Status.{Status}
+use Rattle.k_answers.specs.declared.status.Status.TheVariants.{Good}
+use Rattle.k_answers.specs.Ends.{Input, Output}
+use Rattle.k_answers.specs.Parts.{IsWritten, TellsOfBytes, TellsOfSource}
+use Rattle.k_answers.specs.Reports.{IsFileReport, IsReportOf, IsSomeReport, IsWatchedReport}
+use Rattle.k_answers.specs.Samples.{samples_text}
 use Rattle.k_run.specs.k_watch.declared.sample.Sample.{Sample}
-use Rattle.k_top.specs.Runs.{HasCause, HasReplayed, HasRun, HasWatchedRun, IsNamedEnd, status_of, text_of}
+use Rattle.k_answers.specs.Readings.{HasCause}
+use Rattle.k_top.specs.Runs.{HasReplayed, HasRun, HasWatchedRun, IsNamedEnd, status_of, text_of}
 use Rattle.k_top.proofs.Reports.{named_in_run, report_by_run}
 
 -- What the end of a run shows has a name.

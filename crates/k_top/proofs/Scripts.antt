@@ -5,13 +5,14 @@ use Rattle.k_types.specs.declared.event.Event.{Event}
 use Rattle.k_types.specs.Bounds.{most_trace_bytes}
 use Rattle.k_run.specs.k_outcome.Ends.{EndValue}
 use Rattle.k_trace.specs.Named.{NamedTrace}
-use Rattle.k_top.specs.declared.run_error.RunError.{RunError}
-use Rattle.k_top.specs.declared.run_error.RunError.TheVariants.{NoMemory, Unread, Bad}
-use Rattle.k_top.specs.Ends.{Input}
-use Rattle.k_top.specs.Parts.{TellsOfScript, TellsOfSource}
-use Rattle.k_top.specs.Reports.{IsFileReport, IsReportOf}
+use Rattle.k_answers.specs.declared.run_error.RunError.{RunError}
+use Rattle.k_answers.specs.declared.run_error.RunError.TheVariants.{NoMemory, Unread, Bad}
+use Rattle.k_answers.specs.Ends.{Input}
+use Rattle.k_answers.specs.Parts.{TellsOfScript, TellsOfSource}
+use Rattle.k_answers.specs.Reports.{IsFileReport, IsReportOf}
 use Rattle.k_top.specs.Runs.{IsNamedEnd, status_of, text_of}
-use Rattle.k_top.specs.Scripts.{HasCause, HasReplayed}
+use Rattle.k_answers.specs.Scripts.{HasCause}
+use Rattle.k_top.specs.Scripts.{HasReplayed}
 use Rattle.k_top.proofs.Reports.{named_in_run, report_by_run}
 
 -- What the end of a run shows has a name.

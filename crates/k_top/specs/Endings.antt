@@ -4,11 +4,11 @@ use Rattle.std.specs.Global.{Global}
 use Rattle.std.specs.Vec.Iter.{into_iter_items}
 use Rattle.std.specs.declared.vec.IntoIter.{IntoIter}
 use Rattle.k_words.specs.Words.{Text}
-use Rattle.k_top.specs.declared.status.Status.{Status}
-use Rattle.k_top.specs.declared.status.Status.TheVariants.{WantOfMemory}
-use Rattle.k_top.specs.Answers.{IsAnswered}
-use Rattle.k_top.specs.Ends.{Input, Output, TookNothing}
-use Rattle.k_top.specs.Numbers.{number_of}
+use Rattle.k_answers.specs.declared.status.Status.{Status}
+use Rattle.k_answers.specs.declared.status.Status.TheVariants.{WantOfMemory}
+use Rattle.k_answers.specs.Answers.{IsAnswered}
+use Rattle.k_answers.specs.Ends.{Input, Output, TookNothing}
+use Rattle.k_answers.specs.Numbers.{number_of}
 
 -- The words after the program's name; none where the arguments are not told, since one of them is not UTF-8.
 abbrev pub words_of : {E : Type 0} → Result (IntoIter (String Global) Global) E → List Text

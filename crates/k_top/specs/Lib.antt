@@ -1,12 +1,4 @@
-pub mod Commands
-pub mod Texts
-pub mod Samples
-pub mod Ends
-pub mod Inputs
-pub mod Reports
-pub mod Answers
 pub mod Runs
 pub mod Scripts
-pub mod Parts
-pub mod Numbers
 pub mod Endings
+pub use Rattle.k_answers.specs.Answers

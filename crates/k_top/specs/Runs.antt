@@ -1,44 +1,23 @@
--- What the parts of a run of a trace give: the trace that was read, the run of it, and why there is none.
+-- The run of the trace that the source gave, and what is told of it, or of why there is none.
 use Rattle.std.specs.Prelude.{◌≡◌, ℕ, ◌≤◌, List, [], length, Result, Ok, Err}
-use Rattle.k_types.specs.Bounds.{most_trace_bytes}
 use Rattle.k_types.specs.FileOrder.{file_order}
 use Rattle.k_words.specs.Words.{Text}
-use Rattle.k_trace.specs.Judgement.{IsBad}
 use Rattle.k_trace.specs.Named.{NamedTrace}
-use Rattle.k_trace.specs.Rules.{Spells}
 use Rattle.k_text.specs.Named.{AreNamed}
 use Rattle.k_text.specs.Report.{text_over}
 use Rattle.k_run.specs.k_outcome.Ends.{EndValue, journal_of, last_state}
 use Rattle.k_run.specs.Runs.{IsRunOf}
 use Rattle.k_run.specs.Watched.{IsWatchedRunOf}
 use Rattle.k_run.specs.k_watch.declared.sample.Sample.{Sample}
-use Rattle.k_work.specs.Crediting.{AreSmall}
-use Rattle.k_work.specs.Tables.{Work, work_of}
-use Rattle.k_top.specs.declared.run_error.RunError.{RunError}
-use Rattle.k_top.specs.declared.run_error.RunError.TheVariants.{NoMemory, Unread, Bad}
-use Rattle.k_top.specs.declared.status.Status.{Status}
-use Rattle.k_top.specs.declared.status.Status.TheVariants.{Good, BadTrace, WantOfMemory, ReadFault}
-use Rattle.k_top.specs.Answers.{WasRead}
-use Rattle.k_top.specs.Ends.{Input, SourceFailed}
-use Rattle.k_top.specs.Texts.{bad_trace_text}
-
--- The source gave bytes that spell the trace.
-pub record GaveTrace (input : Input) (t : NamedTrace) : Type 0 where
-  pub bytes : Text
-  pub read : WasRead most_trace_bytes input bytes
-  pub spelled : Spells bytes t
-
--- The source gave bytes of which that line is the first bad one, with that lowest reason.
-pub record GaveBad (input : Input) (line reason : ℕ) : Type 0 where
-  pub bytes : Text
-  pub read : WasRead most_trace_bytes input bytes
-  pub bad : IsBad bytes line reason
-
--- The source is the cause of the error, but for want of memory.
-abbrev pub HasCause : Input → RunError → Type 0
-HasCause input (NoMemory refused) = Unit {0}
-HasCause input Unread = SourceFailed input
-HasCause input (Bad line reason) = GaveBad input line reason
+use Rattle.k_answers.specs.k_work.Crediting.{AreSmall}
+use Rattle.k_answers.specs.k_work.Tables.{Work, work_of}
+use Rattle.k_answers.specs.declared.run_error.RunError.{RunError}
+use Rattle.k_answers.specs.declared.run_error.RunError.TheVariants.{NoMemory, Unread, Bad}
+use Rattle.k_answers.specs.declared.status.Status.{Status}
+use Rattle.k_answers.specs.declared.status.Status.TheVariants.{Good, BadTrace, WantOfMemory, ReadFault}
+use Rattle.k_answers.specs.Ends.{Input}
+use Rattle.k_answers.specs.Readings.{GaveTrace}
+use Rattle.k_answers.specs.Texts.{bad_trace_text}
 
 -- The source gave a trace, and this is the end of a run of it.
 pub record HasRun (input : Input) (end : EndValue) : Type 0 where

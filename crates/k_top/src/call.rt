@@ -1,15 +1,14 @@
 //! The top call.
 ghost use Rattle.std.specs.Prelude.{◌≡◌, map, string_bytes};
-ghost use Rattle.k_top.specs.Answers.{IsAnswered, IsUnwritten};
-ghost use Rattle.k_top.specs.Commands.{IsReading};
+ghost use Rattle.k_answers.specs.Answers.{IsAnswered, IsUnwritten};
+ghost use Rattle.k_answers.specs.Commands.{IsReading};
 
-use crate::commands::{Command, command_of};
 use crate::running::run_file;
 use crate::settling::answer_at_once;
-use crate::status::Status;
 use crate::watching::watch_file;
 use crate::working::work_file;
 use crate::workload::run_workload;
+use k_answers::{Command, Status, command_of};
 use k_io::{Gate, Sink, Source};
 use std::alloc::Global;
 use std::sync::Wait;

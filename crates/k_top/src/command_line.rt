@@ -4,7 +4,7 @@ ghost use Rattle.std.specs.Process.{exit_status};
 ghost use Rattle.k_top.specs.Endings.{EndsWith, words_of};
 
 use crate::gathering::gathered_call;
-use crate::status::{exit_code, want_of_memory};
+use k_answers::{exit_code, want_of_memory};
 use k_io::{Gate, NoMemory, Sink, Source, push};
 use std::alloc::Global;
 use std::env::Args;

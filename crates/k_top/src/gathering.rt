@@ -1,10 +1,9 @@
 //! The top call before a sink that gathers what is written.
 ghost use Rattle.std.specs.Prelude.{◌≡◌, map, string_bytes};
-ghost use Rattle.k_top.specs.Answers.{IsAnswered};
+ghost use Rattle.k_answers.specs.Answers.{IsAnswered};
 
 use crate::call::kaffe;
-use crate::status::Status;
-use crate::texts::after_writing;
+use k_answers::{Status, after_writing};
 use k_gather::{Gathered, SinkName};
 use k_io::{Gate, Sink, Source};
 use std::alloc::Global;

@@ -7,21 +7,13 @@
 //! the command line.
 #![tactic(auto)]
 
-mod auditing;
 mod call;
-mod checking;
 mod command_line;
-mod commands;
 mod gathering;
-mod parting;
-mod run_error;
 mod running;
-mod samples;
 mod settling;
 mod snapping;
 mod spawning;
-mod status;
-mod texts;
 mod watching;
 mod working;
 mod workload;
@@ -29,5 +21,5 @@ mod workload;
 pub use call::kaffe;
 pub use command_line::program;
 pub use gathering::gathered_call;
+pub use k_answers::Status;
 pub use settling::answer_at_once;
-pub use status::Status;

@@ -3,20 +3,16 @@
 //! Only the run on threads takes a handle by which it may wait; the other one returns.
 ghost use Rattle.std.specs.Prelude.{◌≡◌, IfErr, IfOk};
 ghost use Rattle.k_types.specs.Bounds.{most_trace_bytes};
-ghost use Rattle.k_trace.specs.Meaning.{meaning_of};
-ghost use Rattle.k_top.specs.Answers.{IsUnwritten};
-ghost use Rattle.k_top.specs.Parts.{Answers, IsWritten, TellsOfBytes, TellsOfSource};
-ghost use Rattle.k_top.specs.Reports.{IsFileReport, IsSomeReport};
-ghost use Rattle.k_top.specs.Runs.{GaveTrace, HasCause, HasReplayed, HasRun, IsNamedEnd, status_of, text_of};
+ghost use Rattle.k_answers.specs.Answers.{IsUnwritten};
+ghost use Rattle.k_answers.specs.Parts.{Answers, IsWritten, TellsOfBytes, TellsOfSource};
+ghost use Rattle.k_answers.specs.Reports.{IsFileReport, IsSomeReport};
+ghost use Rattle.k_answers.specs.Readings.{HasCause};
+ghost use Rattle.k_top.specs.Runs.{HasReplayed, HasRun, IsNamedEnd, status_of, text_of};
 
-use crate::run_error::RunError;
-use crate::status::{Status, want_of_memory};
-use crate::texts::{after_writing, write_bad_trace};
-use k_io::{Gate, ReadAllError, Sink, Source, read_all};
+use k_answers::{RunError, Status, after_writing, trace_of, want_of_memory, write_bad_trace};
+use k_io::{Gate, Sink, Source};
 use k_run::{Outcome, replay_trace, run_trace};
 use k_text::report;
-use k_trace::{Trace, TraceError, read_trace};
-use k_types::MOST_TRACE_BYTES;
 use std::alloc::Global;
 use std::sync::Wait;
 use std::thread::Threads;
@@ -74,22 +70,6 @@ pub(crate) fn replay_source<S: Source>(alloc: Global, src: &mut S) -> Result<Out
 {
     let trace = trace_of(alloc, src)?;
     Ok(replay_trace(alloc, trace)?)
-}
-
-/// The trace that the source gives.
-pub(crate) fn trace_of<S: Source>(alloc: Global, src: &mut S) -> Result<Trace, RunError>
-    ensures ok { IfOk result (λ trace. GaveTrace (record { left = S.left src.old; rest = S.left src.new; failed_before = S.faults src.old; failed_after = S.faults src.new }) (meaning_of trace)) }
-    ensures err { IfErr result (λ error. HasCause (record { left = S.left src.old; rest = S.left src.new; failed_before = S.faults src.old; failed_after = S.faults src.new }) error) }
-{
-    match read_all(alloc, src, MOST_TRACE_BYTES) {
-        Ok(bytes) => match read_trace(alloc, &bytes) {
-            Ok(trace) => Ok(trace),
-            Err(TraceError::NoMemory(refused)) => Err(RunError::NoMemory(refused)),
-            Err(TraceError::Bad { line, reason }) => Err(RunError::Bad { line, reason }),
-        },
-        Err(ReadAllError::NoMemory(refused)) => Err(RunError::NoMemory(refused)),
-        Err(ReadAllError::ReadFault) => Err(RunError::Unread),
-    }
 }
 
 /// Writes the report of the run that is over, or says why there is none.

@@ -1,16 +1,12 @@
 //! What the program answers without waiting for anybody.
 ghost use Rattle.std.specs.Prelude.{◌≡◌, map, string_bytes};
-ghost use Rattle.k_top.specs.Answers.{IsAnswered, IsUnwritten};
-ghost use Rattle.k_top.specs.Commands.{IsReading, WaitsForNobody};
+ghost use Rattle.k_answers.specs.Answers.{IsAnswered, IsUnwritten};
+ghost use Rattle.k_answers.specs.Commands.{IsReading, WaitsForNobody};
 
-use crate::auditing::audit_file;
-use crate::checking::check_file;
-use crate::commands::{Command, command_of};
 use crate::running::replay_file;
 use crate::snapping::snap_file;
 use crate::spawning::tree_file;
-use crate::status::Status;
-use crate::texts::write_usage;
+use k_answers::{Command, Status, audit_file, check_file, command_of, write_usage};
 use k_io::{Sink, Source};
 use std::alloc::Global;
 

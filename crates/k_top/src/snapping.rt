@@ -1,14 +1,12 @@
 //! The command that writes the snapshot of the state that a trace leaves.
 ghost use Rattle.std.specs.Prelude.{◌≡◌};
 ghost use Rattle.k_types.specs.Bounds.{most_trace_bytes};
-ghost use Rattle.k_top.specs.Answers.{IsUnwritten};
-ghost use Rattle.k_top.specs.Parts.{Answers, TellsOfBytes, TellsOfSource};
-ghost use Rattle.k_top.specs.Reports.{IsFileSnapshot};
+ghost use Rattle.k_answers.specs.Answers.{IsUnwritten};
+ghost use Rattle.k_answers.specs.Parts.{Answers, TellsOfBytes, TellsOfSource};
+ghost use Rattle.k_answers.specs.Reports.{IsFileSnapshot};
 
 use crate::running::{replay_source, tell_end};
-use crate::status::Status;
-use crate::texts::after_writing;
-use k_audit::snapshot;
+use k_answers::{Status, after_writing, snapshot};
 use k_io::{Sink, Source};
 use std::alloc::Global;
 

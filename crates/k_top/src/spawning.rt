@@ -1,19 +1,15 @@
 //! The command that does the operations of a script, whose processes make and end child processes.
 ghost use Rattle.std.specs.Prelude.{◌≡◌, IfErr, IfOk};
 ghost use Rattle.k_types.specs.Bounds.{most_trace_bytes};
-ghost use Rattle.k_trace.specs.Meaning.{meaning_of};
-ghost use Rattle.k_top.specs.Answers.{IsUnwritten};
-ghost use Rattle.k_top.specs.Parts.{Answers, TellsOfScript, TellsOfSource};
-ghost use Rattle.k_top.specs.Scripts.{GaveScript, HasCause, HasReplayed};
+ghost use Rattle.k_answers.specs.Answers.{IsUnwritten};
+ghost use Rattle.k_answers.specs.Parts.{Answers, TellsOfScript, TellsOfSource};
+ghost use Rattle.k_answers.specs.Scripts.{HasCause};
+ghost use Rattle.k_top.specs.Scripts.{HasReplayed};
 
-use crate::run_error::RunError;
 use crate::running::tell_end;
-use crate::status::Status;
-use k_io::{ReadAllError, Sink, Source, read_all};
+use k_answers::{RunError, Status, translation_of};
+use k_io::{Sink, Source};
 use k_run::{Outcome, replay_trace};
-use k_spawn::{ScriptError, read_script, translate};
-use k_trace::Trace;
-use k_types::MOST_TRACE_BYTES;
 use std::alloc::Global;
 
 /// Reads a script from the source, does the operations of its translation in the order of the file on the caller's thread, and writes
@@ -36,20 +32,4 @@ fn tree_source<S: Source>(alloc: Global, src: &mut S) -> Result<Outcome, RunErro
 {
     let trace = translation_of(alloc, src)?;
     Ok(replay_trace(alloc, trace)?)
-}
-
-/// The translation of the script that the source gives.
-fn translation_of<S: Source>(alloc: Global, src: &mut S) -> Result<Trace, RunError>
-    ensures ok { IfOk result (λ trace. GaveScript (record { left = S.left src.old; rest = S.left src.new; failed_before = S.faults src.old; failed_after = S.faults src.new }) (meaning_of trace)) }
-    ensures err { IfErr result (λ error. HasCause (record { left = S.left src.old; rest = S.left src.new; failed_before = S.faults src.old; failed_after = S.faults src.new }) error) }
-{
-    match read_all(alloc, src, MOST_TRACE_BYTES) {
-        Ok(bytes) => match read_script(alloc, &bytes) {
-            Ok(script) => Ok(translate(alloc, &script)?),
-            Err(ScriptError::NoMemory(refused)) => Err(RunError::NoMemory(refused)),
-            Err(ScriptError::Bad { line, reason }) => Err(RunError::Bad { line, reason }),
-        },
-        Err(ReadAllError::NoMemory(refused)) => Err(RunError::NoMemory(refused)),
-        Err(ReadAllError::ReadFault) => Err(RunError::Unread),
-    }
 }

@@ -1,18 +1,21 @@
 //! The command that runs a trace beside a watcher.
-ghost use Rattle.std.specs.Prelude.{◌≡◌, IfErr, IfOk};
+ghost use Rattle.std.specs.Prelude.{◌≡◌, ◌++◌, IfErr, IfOk};
+ghost use Rattle.k_io.specs.Writing.{Writes};
+ghost use Rattle.k_run.specs.k_outcome.Ends.{journal_of, last_state};
+ghost use Rattle.k_text.specs.Report.{text_over};
 ghost use Rattle.k_types.specs.Bounds.{most_trace_bytes};
-ghost use Rattle.k_top.specs.Answers.{IsUnwritten};
-ghost use Rattle.k_top.specs.Parts.{Answers, TellsOfBytes, TellsOfSource};
-ghost use Rattle.k_top.specs.Reports.{IsWatchedReport};
-ghost use Rattle.k_top.specs.Runs.{HasCause, HasWatchedRun};
+ghost use Rattle.k_answers.specs.Answers.{IsUnwritten};
+ghost use Rattle.k_answers.specs.Parts.{Answers, TellsOfBytes, TellsOfSource};
+ghost use Rattle.k_answers.specs.Reports.{IsWatchedReport};
+ghost use Rattle.k_answers.specs.Readings.{HasCause};
+ghost use Rattle.k_answers.specs.Samples.{samples_text};
+ghost use Rattle.k_top.specs.Runs.{HasWatchedRun, IsNamedEnd};
 
-use crate::run_error::RunError;
-use crate::running::{tell_end, trace_of};
-use crate::samples::write_watched;
-use crate::status::Status;
-use crate::texts::after_writing;
-use k_io::{Gate, Sink, Source};
+use crate::running::tell_end;
+use k_answers::{RunError, Status, after_writing, trace_of, write_samples};
+use k_io::{Gate, Sink, Source, WriteFailed};
 use k_run::{Outcome, Sample, watch_trace};
+use k_text::report;
 use std::alloc::Global;
 use std::sync::Wait;
 use std::thread::Threads;
@@ -54,4 +57,17 @@ fn watch_source<S: Source, G: Gate, R: Threads + Wait + Sync>(
 {
     let trace = trace_of(alloc, src)?;
     Ok(watch_trace(rt, alloc, trace, count, gate)?)
+}
+
+/// Writes the report of the run that is over, and then the samples.
+fn write_watched<K: Sink>(
+    out: &mut K,
+    outcome: &Outcome,
+    samples: &[Sample],
+) -> Result<(), WriteFailed>
+    requires { IsNamedEnd outcome.now }
+    ensures { Writes (K.Holds out.old) (K.Holds out.new) (K.faults out.old) (K.faults out.new) result (text_over outcome.now.names outcome.now.setup (journal_of outcome.now) (last_state outcome.now) ++ samples_text samples.now) }
+{
+    report(out, &outcome.names, outcome)?;
+    write_samples(out, samples)
 }

@@ -1,13 +1,11 @@
 //! The command that runs the workload.
 ghost use Rattle.std.specs.Prelude.{◌≡◌, ◌≤◌, IfOk};
-ghost use Rattle.k_big.specs.Workload.{big_trace, most_objects};
+ghost use Rattle.k_answers.specs.k_big.Workload.{big_trace, most_objects};
 ghost use Rattle.k_run.specs.Runs.{IsRunOf};
-ghost use Rattle.k_top.specs.Answers.{IsUnwritten};
-ghost use Rattle.k_top.specs.Parts.{Answers, TellsOfBig};
+ghost use Rattle.k_answers.specs.Answers.{IsUnwritten};
+ghost use Rattle.k_answers.specs.Parts.{Answers, TellsOfBig};
 
-use crate::status::{Status, want_of_memory};
-use crate::texts::after_writing;
-use k_big::{big_trace, summary};
+use k_answers::{Status, after_writing, big_trace, summary, want_of_memory};
 use k_io::{Gate, NoMemory, Sink};
 use k_run::{Outcome, run_trace};
 use std::alloc::Global;

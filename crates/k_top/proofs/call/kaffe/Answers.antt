@@ -1,11 +1,11 @@
 use Rattle.std.proofs.Common.{rules, sym, ◌∙◌, ap, Some}
 use Rattle.std.specs.Prelude.{map, string_bytes}
-use Rattle.k_top.specs.declared.commands.Command.{Command}
-use Rattle.k_top.specs.declared.commands.Command.TheVariants.{Run, Watch, Work}
-use Rattle.k_top.proofs.Answered.{answered_more}
-use Rattle.k_top.proofs.Contract.{contract}
-use Rattle.k_top.proofs.Lists.{few_objects}
-use Rattle.k_top.proofs.Meanings.{big_means, run_means, watch_means, work_means}
+use Rattle.k_answers.specs.declared.commands.Command.{Command}
+use Rattle.k_answers.specs.declared.commands.Command.TheVariants.{Run, Watch, Work}
+use Rattle.k_answers.proofs.Answered.{answered_more}
+use Rattle.k_answers.proofs.Contract.{contract}
+use Rattle.k_answers.proofs.Lists.{few_objects}
+use Rattle.k_answers.proofs.Meanings.{big_means, run_means, watch_means, work_means}
 use Rattle.k_top.proofs.call.kaffe.Goals as goal
 
 pub returns-in-Some-Run-clause-answered : goal.returns-in-Some-Run-clause-answered

@@ -1,4 +1,4 @@
-use Rattle.k_top.proofs.Handed.{handed_on, not_handed_on}
+use Rattle.k_answers.proofs.Handed.{handed_on, not_handed_on}
 use Rattle.k_top.proofs.gathering.gathered_call.Goals as goal
 
 pub returns-in-WriteFault-clause-answered : goal.returns-in-WriteFault-clause-answered

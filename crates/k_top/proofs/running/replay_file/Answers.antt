@@ -1,4 +1,4 @@
-use Rattle.k_top.proofs.Answered.{answered_written}
+use Rattle.k_answers.proofs.Answered.{answered_written}
 use Rattle.k_top.proofs.Runs.{replay_named, replay_told}
 use Rattle.k_top.proofs.running.replay_file.Goals as goal
 

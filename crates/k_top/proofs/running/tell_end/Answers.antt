@@ -5,11 +5,11 @@ use Rattle.k_io.specs.declared.errors.WriteFailed.{WriteFailed}
 use Rattle.k_io.proofs.Writings.{writes_same}
 use Rattle.k_run.specs.k_outcome.Ends.{EndValue, journal_of, last_state}
 use Rattle.k_text.specs.Report.{text_over}
-use Rattle.k_top.specs.declared.status.Status.TheVariants.{Good}
-use Rattle.k_top.specs.declared.run_error.RunError.{RunError}
+use Rattle.k_answers.specs.declared.status.Status.TheVariants.{Good}
+use Rattle.k_answers.specs.declared.run_error.RunError.{RunError}
 use Rattle.k_top.specs.Runs.{IsNamedEnd}
 use Rattle.k_top.proofs.Runs.{end_written}
-use Rattle.k_top.proofs.Written.{never_unwritten, written_by}
+use Rattle.k_answers.proofs.Written.{never_unwritten, written_by}
 use Rattle.k_top.proofs.running.tell_end.Goals as goal
 
 pub report-requires : goal.report-requires

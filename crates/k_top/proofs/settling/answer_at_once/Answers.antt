@@ -1,9 +1,9 @@
 use Rattle.std.proofs.Common.{sym, ◌∙◌, ap, refl, Some}
-use Rattle.k_top.specs.declared.commands.Command.{Command}
-use Rattle.k_top.specs.declared.commands.Command.TheVariants.{Run, Replay, Check, Big, Watch, Work, Snap, Audit, Tree}
-use Rattle.k_top.proofs.Answered.{answered_more, answered_written}
-use Rattle.k_top.proofs.Contract.{contract}
-use Rattle.k_top.proofs.Meanings.{audit_means, check_means, run_means, snap_means, tree_means}
+use Rattle.k_answers.specs.declared.commands.Command.{Command}
+use Rattle.k_answers.specs.declared.commands.Command.TheVariants.{Run, Replay, Check, Big, Watch, Work, Snap, Audit, Tree}
+use Rattle.k_answers.proofs.Answered.{answered_more, answered_written}
+use Rattle.k_answers.proofs.Contract.{contract}
+use Rattle.k_answers.proofs.Meanings.{audit_means, check_means, run_means, snap_means, tree_means}
 use Rattle.k_top.proofs.settling.answer_at_once.Goals as goal
 
 pub returns-in-Some-Replay-clause-answered : goal.returns-in-Some-Replay-clause-answered

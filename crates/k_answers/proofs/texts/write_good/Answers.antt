@@ -1,0 +1,7 @@
+use Rattle.k_answers.specs.Texts.{good_text}
+use Rattle.k_answers.proofs.Written.{written_by}
+use Rattle.k_answers.proofs.texts.write_good.Goals as goal
+
+pub returns : goal.returns
+unfolding good_text
+returns g c = written_by _ _ _ _ _ _ _ _ (λ none. none) c.after_writing.ensures c.write_all-written.ensures

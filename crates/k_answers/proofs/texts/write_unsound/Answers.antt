@@ -1,0 +1,9 @@
+use Rattle.k_answers.proofs.Lines.{unsound_line}
+use Rattle.k_answers.proofs.Written.{written_by}
+use Rattle.k_io.proofs.Writings.{writes_same}
+use Rattle.k_answers.proofs.texts.write_unsound.Goals as goal
+
+pub returns : goal.returns
+returns g c =
+    let line = unsound_line _ _ _ c.args.point c.new-text.ensures c.push_text.ensures (rw c.from.ensures at c.push_number.ensures.text) in
+    written_by _ _ _ _ _ _ _ _ (λ none. none) c.after_writing.ensures (writes_same _ _ _ _ _ _ _ line c.write_to.ensures.written)

@@ -1,7 +1,0 @@
-use Rattle.k_top.specs.Texts.{sound_text}
-use Rattle.k_top.proofs.Written.{written_by}
-use Rattle.k_top.proofs.texts.write_sound.Goals as goal
-
-pub returns : goal.returns
-unfolding sound_text
-returns g c = written_by _ _ _ _ _ _ _ _ (λ none. none) c.after_writing.ensures c.write_all-written.ensures
