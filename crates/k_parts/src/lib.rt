@@ -10,6 +10,7 @@
 //! again. Parts of two hosts are told apart by the numbers of their hosts, or by their types ([`HostName`]).
 #![tactic(auto)]
 
+mod asking;
 mod ending;
 mod errors;
 mod head;
@@ -24,6 +25,8 @@ mod splitting;
 pub use errors::PartError;
 pub use head::Head;
 pub use k_ends::{Came, HostError, Reach, Terms};
+pub use k_host::{Host, OpenError};
+pub use k_io::NoMemory;
 pub use laws::parts_are_one_host;
 pub use names::{AnyHost, HostName};
 pub use parts::{BookPart, GuestPart, KernelPart, SharedPart};
