@@ -4,3 +4,7 @@ pub mod Events
 pub mod Texts
 pub mod Served
 pub use Rattle.k_keeper.specs.Kept
+pub use Rattle.k_keeper.specs.Books
+pub use Rattle.k_keeper.specs.Limits
+pub use Rattle.k_keeper.specs.Sharers
+pub use Rattle.k_keeper.specs.Words

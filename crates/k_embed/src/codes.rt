@@ -22,21 +22,21 @@ pub(crate) fn plain(status: u32, fault: u32, at: u32) -> Answer
 }
 
 /// Done, with nothing to tell.
-pub(crate) fn done() -> Answer
+pub fn done() -> Answer
     ensures { result ≡ plain 0 0 0 }
 {
     plain(0, 0, 0)
 }
 
 /// The request names no call.
-pub(crate) fn no_call() -> Answer
+pub fn no_call() -> Answer
     ensures { result ≡ plain 8 0 0 }
 {
     plain(8, 0, 0)
 }
 
 /// There is no host, and why.
-pub(crate) fn lacking_host(line: u32, reason: u32) -> Answer
+pub fn lacking_host(line: u32, reason: u32) -> Answer
     ensures { result ≡ of_no_host line reason }
 {
     Answer {
@@ -51,14 +51,14 @@ pub(crate) fn lacking_host(line: u32, reason: u32) -> Answer
 }
 
 /// Something that is not declared.
-pub(crate) fn unknown() -> Answer
+pub fn unknown() -> Answer
     ensures { result ≡ plain 1 0 0 }
 {
     plain(1, 0, 0)
 }
 
 /// A number.
-pub(crate) fn number(n: u64) -> Answer
+pub fn number(n: u64) -> Answer
     ensures { result ≡ of_number n }
 {
     Answer {
@@ -106,7 +106,7 @@ pub(crate) fn referred(target: Option<Name>) -> Answer
 }
 
 /// The object of that name, where there is one.
-pub(crate) fn of_listed(found: Option<Name>) -> Answer
+pub fn of_listed(found: Option<Name>) -> Answer
     ensures { result ≡ of_listed found }
 {
     match found {
@@ -116,7 +116,7 @@ pub(crate) fn of_listed(found: Option<Name>) -> Answer
 }
 
 /// What the register holds, where there is one.
-pub(crate) fn of_held(found: Option<Option<Name>>) -> Answer
+pub fn of_held(found: Option<Option<Name>>) -> Answer
     ensures { result ≡ of_held found }
 {
     match found {
@@ -126,7 +126,7 @@ pub(crate) fn of_held(found: Option<Option<Name>>) -> Answer
 }
 
 /// What is lacking.
-pub(crate) fn lacking(why: HostError) -> Answer
+pub fn lacking(why: HostError) -> Answer
     ensures { result ≡ of_error why }
 {
     let status = match why {
@@ -169,7 +169,7 @@ fn refused(fault: Fault) -> Answer
 
 /// The reply of an operation.
 #[inline(always)]
-fn replied(reply: Reply) -> Answer
+pub fn replied(reply: Reply) -> Answer
     ensures { result ≡ of_reply reply }
 {
     match reply {
@@ -183,7 +183,7 @@ fn replied(reply: Reply) -> Answer
 
 /// What an event tells.
 #[inline(always)]
-pub(crate) fn happened(event: Event) -> Answer
+pub fn happened(event: Event) -> Answer
     ensures { result ≡ of_event event }
 {
     match event {
@@ -224,7 +224,7 @@ pub(crate) fn of_event(came: Result<Event, HostError>) -> Answer
 }
 
 /// A number, where there is one.
-pub(crate) fn of_number(found: Option<u64>) -> Answer
+pub fn of_number(found: Option<u64>) -> Answer
     ensures { result ≡ of_found found }
 {
     match found {

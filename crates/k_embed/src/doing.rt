@@ -85,7 +85,7 @@ pub(crate) fn get_by(request: &Request) -> Op
 }
 
 /// The operation that a request asks for, where it asks for one that a host does at once.
-pub(crate) fn operation(request: &Request) -> Option<Op>
+pub fn operation(request: &Request) -> Option<Op>
     ensures { result ≡ operation_of request.now }
 {
     let reg = Reg(request.reg);

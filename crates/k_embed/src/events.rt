@@ -87,24 +87,38 @@ fn asked_of(event: Event) -> Answer
     }
 }
 
+/// What the event was asked for, where it can be read.
+pub fn seen_asked(found: Option<Event>) -> Answer
+    ensures { result ≡ of_seen asked_of found }
+{
+    match found {
+        Some(event) => asked_of(event),
+        None => unknown(),
+    }
+}
+
+/// What came of the event, where it can be read.
+pub fn seen_came(found: Option<Event>) -> Answer
+    ensures { result ≡ of_seen of_event found }
+{
+    match found {
+        Some(event) => happened(event),
+        None => unknown(),
+    }
+}
+
 /// What the event of that number was asked for, where it can be read.
 pub(crate) fn event_asked(host: &Host, number: u64) -> Answer
     ensures { result ≡ of_seen asked_of (event_of host.now number) }
 {
-    match host.event(number) {
-        Some(event) => asked_of(event),
-        None => unknown(),
-    }
+    seen_asked(host.event(number))
 }
 
 /// What came of the event of that number, where it can be read.
 pub(crate) fn event_came(host: &Host, number: u64) -> Answer
     ensures { result ≡ of_seen of_event (event_of host.now number) }
 {
-    match host.event(number) {
-        Some(event) => happened(event),
-        None => unknown(),
-    }
+    seen_came(host.event(number))
 }
 
 /// Whether the request takes the next event out.

@@ -13,8 +13,12 @@ mod messages;
 mod serving;
 mod texts;
 
-pub use doing::Whole;
-pub use events::take_next;
+pub use codes::{
+    done, happened, lacking, lacking_host, no_call, number, of_held, of_listed, of_number, replied,
+    unknown,
+};
+pub use doing::{Whole, operation};
+pub use events::{seen_asked, seen_came, take_next};
 pub use messages::{Answer, Request, Rooms};
-pub use serving::{Slot, act, act_whole, opened, read, rooms_for, serve};
+pub use serving::{Slot, act, act_whole, opened, read, reasons, rooms_for, rooms_of, serve};
 pub use texts::{print, publish};

@@ -1,7 +1,7 @@
 //! One call for everything that a host does.
 ghost use Rattle.std.specs.Prelude.{◌≡◌};
 ghost use Rattle.k_embed.specs.Asked.{AreRoomsFor, rooms_of};
-ghost use Rattle.k_embed.specs.Codes.{of_told};
+ghost use Rattle.k_embed.specs.Codes.{line_of, of_told, reason_of};
 ghost use Rattle.k_embed.specs.Served.{IsActed, IsDoneWhole, IsOpened, IsRead, IsServed, IsServedOn, IsServedRest, IsServedWith, empty_for, told_of};
 
 use crate::asking::ask;
@@ -29,15 +29,23 @@ pub struct Slot {
     pub texts: Option<Texts>,
 }
 
+/// The first bad line of the text and the number of its reason; or line 0, and 1 where memory ran out and 2 where the terms are not fit.
+pub fn reasons(why: OpenError) -> (u32, u32)
+    ensures line { result.0 ≡ line_of why }
+    ensures reason { result.1 ≡ reason_of why }
+{
+    match why {
+        OpenError::Bad { line, reason } => (line, reason),
+        OpenError::NoMemory(_) => (0, 1),
+        OpenError::Terms => (0, 2),
+    }
+}
+
 /// A place with no host, and why.
 fn empty(alloc: Global, why: OpenError) -> Slot
     ensures { result ≡ empty_for alloc why }
 {
-    let (line, reason) = match why {
-        OpenError::Bad { line, reason } => (line, reason),
-        OpenError::NoMemory(_) => (0, 1),
-        OpenError::Terms => (0, 2),
-    };
+    let (line, reason) = reasons(why);
     Slot {
         alloc,
         host: None,
@@ -48,7 +56,7 @@ fn empty(alloc: Global, why: OpenError) -> Slot
 }
 
 /// The rooms that are asked for.
-fn rooms_of(asked: Rooms) -> k_keeper::Rooms
+pub fn rooms_of(asked: Rooms) -> k_keeper::Rooms
     ensures { result ≡ rooms_of asked }
 {
     k_keeper::Rooms {
