@@ -1,0 +1,4 @@
+pub mod Codes
+pub mod Lending
+pub mod Opening
+pub mod Serving
