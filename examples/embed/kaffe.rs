@@ -5,6 +5,9 @@
 #[path = "kaffe_answers.rs"]
 mod answers;
 
+#[path = "kaffe_parts.rs"]
+pub mod parts;
+
 pub use answers::*;
 use std::marker::PhantomData;
 use std::ops::Range;

@@ -1,5 +1,8 @@
-//! A host for C: six functions over `k_embed`, which `kaffe.h` declares. C gives the memory for a host, and has it back.
+//! A host for C: six functions over `k_embed`, which `kaffe.h` declares. C gives the memory for a host, and has it back. The parts of a host
+//! have functions of their own.
 #![tactic(auto)]
+
+mod parts;
 
 ghost use Rattle.std.specs.Prelude.{◌≡◌};
 ghost use Rattle.std.specs.Borrow.{full_share, sem};
@@ -10,6 +13,10 @@ ghost use Rattle.k_embed.specs.Asked.{AreRoomsFor};
 ghost use Rattle.k_embed.specs.Served.{IsOpened, IsRead, IsServed};
 
 use k_embed::{Answer, Request, Rooms, Slot, opened, read, rooms_for, serve};
+pub use parts::{
+    KaffePart, kaffe_call_four, kaffe_call_one, kaffe_call_three, kaffe_call_two, kaffe_part_close,
+    kaffe_part_size, kaffe_part_take, kaffe_split,
+};
 use std::alloc::Global;
 
 /// What C has of a host: its address. C never looks behind it.

@@ -17,7 +17,8 @@ use Rattle.k_parts.specs.declared.errors.PartError.TheVariants.{Host, Mixed}
 abbrev pub of_mixed : Answer
 of_mixed = plain 17 0 0
 
--- the call needs that part besides: 1 the book's, 2 the kernel's, 3 that shared heap's, 4 that process's, which it ends
+-- the call needs other parts than it was lent, beside the process's: 1 the book's alone, 2 the kernel's too, 3 that shared heap's too, 4 that process's,
+-- which it ends, and the kernel's
 abbrev pub of_needs : ℕ → ℕ → Answer
 of_needs part at = record { status = 18; fault = 0; at = at; what = 5; seg = part; serial = 0; number = 0 }
 

@@ -22,7 +22,7 @@ pub(crate) fn mixed() -> Answer
     }
 }
 
-/// The call needs that part besides.
+/// The call needs other parts than it was lent, this one among them.
 fn needs(part: u32, at: u32) -> Answer
     ensures { result ≡ of_needs part at }
 {

@@ -2,7 +2,7 @@
 //!
 //! [`opened_row`] makes a host of a text and takes it apart, and [`take_next`] gives its parts one after the other. [`serve_one`] to
 //! [`serve_four`] do what a `Request` of `k_embed` asks over the parts that are lent, and answer in its numbers. Which parts a request needs
-//! depends on what they show, so an answer may be that another one is needed.
+//! depends on what they show, so an answer may be that others are needed than were lent.
 #![tactic(auto)]
 
 mod codes;

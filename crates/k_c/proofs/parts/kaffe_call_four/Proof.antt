@@ -1,0 +1,122 @@
+-- `kaffe_call_four` lends what lies at each of four addresses for a lifetime of its own, and has all back at the values that the call left.
+use Rattle.std.proofs.Common.{ℕ, [], ◌∷◌, ◌++◌, refl}
+use mir.Syntax.{named}
+use mir.Val.{Val, vptr}
+use base.Fraction.{full_share}
+use base.Logic.{ent, sep, id⊢}
+use base.Fml.{Lft, ftrue, fsep, flft}
+use prog.Wp.{WpFn}
+use seplogic.Ra.Ura.{Ura}
+use types.Logic.{Logic, sem}
+use types.Kit.{‵, raw, ◌⊛◌, some, later, prop, at_ret, ◌$◌, ◌∵◌, !, qed, by, done, move, keep, use1, use2, split, join, fsplit, fsplit3, pick, await, regoal, suffices, frame, group, show}
+use types.Run.{enter, of_opd, addr, stop, no_more, and_then, first, blocks, exec, returns}
+use types.ByLocal.{alloc_all, pass_all, free_all, look_at, get, through, sets, sets_last, lands_as, env}
+use contract.Monad.{fact}
+use contract.Lifetimes.{AllOutlive, Lfts, Shares}
+use contract.Running.{Running, tables}
+use prog.Model.{Model}
+use denote.Exit.{yes}
+use denote.Laws.{Is, shows}
+use denote.Memory.{part_at, part_of}
+use denote.RawPtr.{Ptr, RawPtr, block_ptr, lies_at, in_a_block, rawptr_vals, rawptr_Tells}
+use denote.Signature.{plain}
+use denote.Steps.{nothing, peeks, heard}
+use denote.Triple.Call.{calls_at}
+use denote.Triple.Clauses.{Clauses, Lasts, lasts}
+use denote.Triple.Spec.{triple_of}
+use denote.Triple.Table.{framed}
+use denote.Triple.Walked.{says, Stays, walk_of, stay_dropped, Goes-dropped, ends_at}
+use Rattle.std.proofs.raw_atomic.Walks.{proved}
+use Rattle.k_slots.specs.contracts.slots.PartSlot.{the_row as R}
+use Rattle.k_slots.specs.declared.slots.PartSlot.{PartSlot}
+use Rattle.k_embed.specs.contracts.messages.Request.{the_row as Ask}
+use Rattle.k_embed.specs.contracts.messages.Answer.{the_row as Said}
+use Rattle.k_embed.proofs.messages.Request.TheLaws.{the_told as AT, the_row_laws as AL}
+use Rattle.k_embed.proofs.messages.Answer.TheLaws.{the_row_laws as SL}
+use Rattle.k_slots.specs.Lending.{CanLendFour}
+use Rattle.k_slots.specs.Serving.{IsServedByFour}
+use Rattle.k_c.specs.contracts.parts.kaffe_call_four as f
+use Rattle.k_slots.specs.contracts.serve_four as s
+use Rattle.k_slots.proofs.serve_four.Met.{met}
+use Rattle.k_c.proofs.parts.kaffe_call_four.Statement.{statement}
+use Rattle.k_c.proofs.Loans.{had_back, lent}
+use Rattle.k_c.proofs.parts.kaffe_call_four.Code as code
+
+abbrev stayed : Stays f.ended.signature.params f.ended.kept
+stayed = (stay_dropped _ yes, (stay_dropped _ yes, (stay_dropped _ yes, (stay_dropped _ yes, (stay_dropped _ yes, tt)))))
+
+-- what lies at the addresses in the end, and what was answered, is what is owed
+abbrev clauses_at : {M : Type 1} (𝓤 : Ura M) (𝓛 : Logic 𝓤) (𝓜 : Model 𝓤 𝓛.H) → Running 𝓤 𝓛.H 𝓜 → Clauses 𝓤 f.ended
+clauses_at 𝓤 𝓛 𝓜 𝓡 = f.clauses 𝓛 𝓜.mem 𝓡.returns
+
+ending : {M : Type 1} (𝓤 : Ura M) (𝓛 : Logic 𝓤) (𝓜 : Model 𝓤 𝓛.H) (𝓡 : Running 𝓤 𝓛.H 𝓜) (κs : Lfts f.ended.signature.lifetimes) (qs : Shares f.ended.signature.lifetimes)
+    (bounds : AllOutlive f.ended.signature.lifetimes f.ended.signature.outlives κs) (b o b₂ o₂ b₃ o₃ b₄ o₄ : ℕ) (ask : Ask.Denot) (v u : Val) (r : Said.Denot) (g w : PartSlot × PartSlot × PartSlot × PartSlot) → IsServedByFour g.0 w.0 g.1 w.1 g.2 w.2 g.3 w.3 ask r →
+    ent 𝓤 (sep 𝓤 (sem 𝓛 (Said.own_val r (u ∷ []))) (sep 𝓤 (sem 𝓛 (part_at R full_share w.0 b o)) (sep 𝓤 (sem 𝓛 (part_at R full_share w.1 b₂ o₂)) (sep 𝓤 (sem 𝓛 (part_at R full_share w.2 b₃ o₃)) (sem 𝓛 (part_at R full_share w.3 b₄ o₄))))))
+    ((walk_of 𝓛 f.ended stayed (clauses_at 𝓤 𝓛 𝓜 𝓡)).post ((κs, qs, bounds, (block_ptr b o, (block_ptr b₂ o₂, (block_ptr b₃ o₃, (block_ptr b₄ o₄, (ask, tt))))), (rawptr_vals (block_ptr b o), (rawptr_vals (block_ptr b₂ o₂), (rawptr_vals (block_ptr b₃ o₃), (rawptr_vals (block_ptr b₄ o₄), (v ∷ [], tt)))))), g) u)
+unfolding part_of
+ending 𝓤 𝓛 𝓜 𝓡 κs qs bounds b o b₂ o₂ b₃ o₃ b₄ o₄ ask v u r g w told =
+    let c = clauses_at 𝓤 𝓛 𝓜 𝓡 in let Y : (walk_of 𝓛 f.ended stayed c).Ghost = ((κs, qs, bounds, (block_ptr b o, (block_ptr b₂ o₂, (block_ptr b₃ o₃, (block_ptr b₄ o₄, (ask, tt))))), (rawptr_vals (block_ptr b o), (rawptr_vals (block_ptr b₂ o₂), (rawptr_vals (block_ptr b₃ o₃), (rawptr_vals (block_ptr b₄ o₄), (v ∷ [], tt)))))), g) in
+    qed 𝓛 (‵ (Said.own_val r (u ∷ [])) ∷ ‵ (part_at R full_share w.0 b o) ∷ ‵ (part_at R full_share w.1 b₂ o₂) ∷ ‵ (part_at R full_share w.2 b₃ o₃) ∷ ‵ (part_at R full_share w.3 b₄ o₄) ∷ []) ∵
+    suffices ! _ (ends_at 𝓛 f.ended stayed c Y u r (tt, (tt, (tt, (tt, (tt, tt))))) (tt, (tt, (tt, (tt, (tt, tt)))))) $
+    nothing ! $ nothing ! $ join ! $ nothing ! $ join ! $ nothing ! $ join ! $ nothing ! $ join ! $ nothing ! $ join ! $ nothing ! $ group ! 3 $ frame ! $
+    show ! (λ (w : PartSlot × PartSlot × PartSlot × PartSlot). sep 𝓤 (sem 𝓛 (lies_at R full_share (block_ptr b o) w.0)) (sep 𝓤 (sem 𝓛 (lies_at R full_share (block_ptr b₂ o₂) w.1)) (sep 𝓤 (sem 𝓛 (lies_at R full_share (block_ptr b₃ o₃) w.2)) (sep 𝓤 (sem 𝓛 (lies_at R full_share (block_ptr b₄ o₄) w.3)) (fact 𝓤 (IsServedByFour g.0 w.0 g.1 w.1 g.2 w.2 g.3 w.3 ask r)))))) w $ frame ! $ frame ! $ frame ! $ says ! told $ done !
+
+pub kaffe_call_four_spec : {M : Type 1} → statement M
+unfolding part_of
+kaffe_call_four_spec 𝓤 𝓛 𝓜 𝓡 wired =
+    let c = f.clauses 𝓛 𝓜.mem 𝓡.returns in let W = walk_of 𝓛 f.ended stayed c in let 𝓣 = tables 𝓤 𝓛.H 𝓜 𝓡 𝓡.env in
+    let address = Goes-dropped 𝓛 0 (plain (λ _. RawPtr)) yes (λ κs x w. refl) in
+    proved 𝓛 f.ended stayed c 𝓜 𝓡 (address, (address, (address, (address, (Goes-dropped 𝓛 0 (plain (λ _. Ask)) yes (λ κs x w. refl), tt)))))
+    f.Key.name code.function (code.unfolded 𝓤 𝓛.H 𝓜 𝓡 wired)
+    (λ κs. (rawptr_vals, (rawptr_vals, (rawptr_vals, (rawptr_vals, ((λ x. AT.val x ∷ []), tt)))))) (λ κs. (rawptr_Tells, (rawptr_Tells, (rawptr_Tells, (rawptr_Tells, (AT.tells, tt)))))) (λ κs qs bounds a g are.
+    let ask = a.1.1.1.1.0 in let v = AT.val ask in
+    let y : Ptr → Ptr → Ptr → Ptr → W.Ghost = λ p q r t. ((κs, qs, bounds, (p, (q, (r, (t, (ask, tt))))), (rawptr_vals p, (rawptr_vals q, (rawptr_vals r, (rawptr_vals t, (v ∷ [], tt)))))), g) in
+    qed 𝓛 ((‵ ftrue ⊛ ‵ (fsep (RawPtr.own_val a.0 (rawptr_vals a.0)) (fsep (RawPtr.own_val a.1.0 (rawptr_vals a.1.0)) (fsep (RawPtr.own_val a.1.1.0 (rawptr_vals a.1.1.0)) (fsep (RawPtr.own_val a.1.1.1.0 (rawptr_vals a.1.1.1.0)) (fsep (Ask.own_val ask (v ∷ [])) ftrue)))))) ∷
+    (‵ (lies_at R full_share a.0 g.0) ⊛ ‵ (lies_at R full_share a.1.0 g.1) ⊛ ‵ (lies_at R full_share a.1.1.0 g.2) ⊛ ‵ (lies_at R full_share a.1.1.1.0 g.3) ⊛ raw (fact 𝓤 (CanLendFour g.0 g.1 g.2 g.3))) ∷ []) ∵
+    split ! $ move ! (1 ∷ []) $ fsplit3 ! $ move ! (2 ∷ []) $ fsplit3 ! $ move ! (2 ∷ []) $ fsplit ! $ move ! (7 ∷ []) $ split ! $ move ! (1 ∷ []) $ split ! $ move ! (1 ∷ []) $ split ! $ move ! (1 ∷ []) $ split ! $ keep ! (4 ∷ 3 ∷ 2 ∷ 0 ∷ 1 ∷ 5 ∷ []) $
+    in_a_block ! a.0 (λ p. lies_at R full_share p g.0) (id⊢ 𝓤 _) (λ b o e.
+    regoal ! (λ p. prop (WpFn 𝓤 𝓛.H 𝓣.C 𝓣.Λ code.function (rawptr_vals p ++ (rawptr_vals a.1.0 ++ (rawptr_vals a.1.1.0 ++ (rawptr_vals a.1.1.1.0 ++ (v ∷ []))))) (W.post (y p a.1.0 a.1.1.0 a.1.1.1.0)))) e refl $
+    move ! (1 ∷ []) $ in_a_block ! a.1.0 (λ p. lies_at R full_share p g.1) (id⊢ 𝓤 _) (λ b₂ o₂ e₂.
+    regoal ! (λ p. prop (WpFn 𝓤 𝓛.H 𝓣.C 𝓣.Λ code.function (rawptr_vals (block_ptr b o) ++ (rawptr_vals p ++ (rawptr_vals a.1.1.0 ++ (rawptr_vals a.1.1.1.0 ++ (v ∷ []))))) (W.post (y (block_ptr b o) p a.1.1.0 a.1.1.1.0)))) e₂ refl $
+    move ! (2 ∷ []) $ in_a_block ! a.1.1.0 (λ p. lies_at R full_share p g.2) (id⊢ 𝓤 _) (λ b₃ o₃ e₃.
+    regoal ! (λ p. prop (WpFn 𝓤 𝓛.H 𝓣.C 𝓣.Λ code.function (rawptr_vals (block_ptr b o) ++ (rawptr_vals (block_ptr b₂ o₂) ++ (rawptr_vals p ++ (rawptr_vals a.1.1.1.0 ++ (v ∷ []))))) (W.post (y (block_ptr b o) (block_ptr b₂ o₂) p a.1.1.1.0)))) e₃ refl $
+    move ! (3 ∷ []) $ in_a_block ! a.1.1.1.0 (λ p. lies_at R full_share p g.3) (id⊢ 𝓤 _) (λ b₄ o₄ e₄.
+    regoal ! (λ p. prop (WpFn 𝓤 𝓛.H 𝓣.C 𝓣.Λ code.function (rawptr_vals (block_ptr b o) ++ (rawptr_vals (block_ptr b₂ o₂) ++ (rawptr_vals (block_ptr b₃ o₃) ++ (rawptr_vals p ++ (v ∷ []))))) (W.post (y (block_ptr b o) (block_ptr b₂ o₂) (block_ptr b₃ o₃) p)))) e₄ refl $
+    let Y = y (block_ptr b o) (block_ptr b₂ o₂) (block_ptr b₃ o₃) (block_ptr b₄ o₄) in
+    enter ! _ _ _ _ _ $ alloc_all ! (λ l. pass_all ! refl ((tt, tt), ((tt, tt), ((tt, tt), ((tt, tt), (AL.lawful 𝓛).typed ask (v ∷ []) are.1.1.1.1.0)))) $
+    -- [lies3; lies2; lies1; lies0; fact; ask; the locals]
+    first ! $ blocks ! $ sets ! (of_opd ! (get ! refl)) refl (tt, tt) $ sets_last ! (addr ! (through ! refl (stop !))) refl (tt, tt) $
+    exec ! 𝓣.C 𝓣.Λ (env code.Mir.locals l) code.Mir.t-2 (at_ret (env code.Mir.locals l) (W.post Y)) $
+    sets ! (of_opd ! (get ! refl)) refl (tt, tt) $
+    first ! $ blocks ! $ sets ! (of_opd ! (get ! refl)) refl (tt, tt) $ sets_last ! (addr ! (through ! refl (stop !))) refl (tt, tt) $
+    exec ! 𝓣.C 𝓣.Λ (env code.Mir.locals l) code.Mir.t-4 (at_ret (env code.Mir.locals l) (W.post Y)) $
+    sets ! (of_opd ! (get ! refl)) refl (tt, tt) $
+    first ! $ blocks ! $ sets ! (of_opd ! (get ! refl)) refl (tt, tt) $ sets_last ! (addr ! (through ! refl (stop !))) refl (tt, tt) $
+    exec ! 𝓣.C 𝓣.Λ (env code.Mir.locals l) code.Mir.t-6 (at_ret (env code.Mir.locals l) (W.post Y)) $
+    sets ! (of_opd ! (get ! refl)) refl (tt, tt) $
+    first ! $ blocks ! $ sets ! (of_opd ! (get ! refl)) refl (tt, tt) $ sets_last ! (addr ! (through ! refl (stop !))) refl (tt, tt) $
+    exec ! 𝓣.C 𝓣.Λ (env code.Mir.locals l) code.Mir.t-8 (at_ret (env code.Mir.locals l) (W.post Y)) $
+    sets ! (of_opd ! (get ! refl)) refl (tt, tt) $
+    sets ! (addr ! (through ! refl (stop !))) refl (tt, tt) $ sets ! (addr ! (through ! refl (stop !))) refl (tt, tt) $ sets ! (addr ! (through ! refl (stop !))) refl (tt, tt) $ sets ! (addr ! (through ! refl (stop !))) refl (tt, tt) $
+    move ! (3 ∷ []) $ lent ! tt R (named 0) g.0 b o (λ α γ. let κ : Lft = α ∷ [] in
+    move ! (5 ∷ []) $ lent ! tt R (named 1) g.1 b₂ o₂ (λ β δ. let κ₂ : Lft = β ∷ [] in
+    move ! (7 ∷ []) $ lent ! tt R (named 2) g.2 b₃ o₃ (λ μ ε. let κ₃ : Lft = μ ∷ [] in
+    move ! (9 ∷ []) $ lent ! tt R (named 3) g.3 b₄ o₄ (λ ν ζ. let κ₄ : Lft = ν ∷ [] in
+    -- [ref3; f3; t3; ref2; f2; t2; ref1; f1; t1; ref0; f0; t0; fact; ask; the locals]
+    let G = triple_of 𝓛 s.signature (s.spec 𝓛 𝓜.mem 𝓡.returns) in
+    let z : G.Ghost = (((κ, (κ₂, (κ₃, (κ₄, tt)))), (full_share, (full_share, (full_share, (full_share, tt)))), tt, (record { ref_ptr = (b, o); ghost_name = γ; now = g.0 }, (record { ref_ptr = (b₂, o₂); ghost_name = δ; now = g.1 }, (record { ref_ptr = (b₃, o₃); ghost_name = ε; now = g.2 }, (record { ref_ptr = (b₄, o₄); ghost_name = ζ; now = g.3 }, (ask, tt))))), (vptr b o ∷ [], (vptr b₂ o₂ ∷ [], (vptr b₃ o₃ ∷ [], (vptr b₄ o₄ ∷ [], (v ∷ [], tt)))))), tt) in
+    nothing ! $ move ! (14 ∷ 0 ∷ []) $ join ! $ move ! (1 ∷ 0 ∷ []) $ join ! $ move ! (3 ∷ 0 ∷ []) $ join ! $ move ! (5 ∷ 0 ∷ []) $ join ! $ move ! (7 ∷ 0 ∷ []) $ join ! $ nothing ! $ move ! (3 ∷ 0 ∷ []) $ join ! $ move ! (4 ∷ 0 ∷ []) $ join ! $ move ! (5 ∷ 0 ∷ []) $ join ! $ move ! (6 ∷ 0 ∷ []) $ join ! $ join ! $ move ! (0 ∷ 5 ∷ []) $ use2 𝓛 (raw (G.pre z)) (id⊢ 𝓤 _) $
+    calls_at ! (framed 𝓤 𝓛.H 𝓜 𝓣) G (met 𝓤 𝓛 𝓜 𝓡 (code.calls-k_slots::serve_four 𝓡.env wired)) z
+    (and_then ! (get ! refl) (and_then ! (get ! refl) (and_then ! (get ! refl) (and_then ! (get ! refl) (and_then ! (get ! refl) (no_more !)))))) (λ u.
+    use1 𝓛 (later (some (λ (r : Said.Denot). ((‵ (flft κ full_share) ⊛ (‵ (flft κ₂ full_share) ⊛ (‵ (flft κ₃ full_share) ⊛ (‵ (flft κ₄ full_share) ⊛ ‵ ftrue)))) ⊛ ‵ (Said.own_val r (u ∷ []))) ⊛
+    some (λ (ws : Lasts s.ended z.0.0 z.0.3). ‵ (lasts s.ended z.0.0 z.0.3 ws) ⊛ raw (fact 𝓤 (IsServedByFour g.0 ws.0 g.1 ws.1.0 g.2 ws.1.1.0 g.3 ws.1.1.1.0 ask r)))))) (id⊢ 𝓤 _) $
+    await ! tt $ pick ! (λ r. split ! $ split ! $ split ! $ move ! (1 ∷ []) $ split ! $ move ! (1 ∷ []) $ split ! $ move ! (1 ∷ []) $ split ! $ move ! (5 ∷ []) $
+    peeks ! Said (Is Said) (shows 𝓛 Said) r (u ∷ []) (λ is. lands_as ! refl refl ((SL.lawful 𝓛).typed r (u ∷ []) is).0 $
+    move ! (6 ∷ []) $ pick ! (λ ws. split ! $ move ! (1 ∷ []) $ heard ! (IsServedByFour g.0 ws.0 g.1 ws.1.0 g.2 ws.1.1.0 g.3 ws.1.1.1.0 ask r) (λ told. fsplit ! $ fsplit ! $ move ! (2 ∷ []) $ fsplit ! $ fsplit ! $ move ! (2 ∷ []) $ fsplit ! $ fsplit ! $ move ! (2 ∷ []) $ fsplit ! $ fsplit ! $
+    -- [v3; w3; l3; v2; w2; v1; w1; v0; w0; Said; t3; noT; t2; t1; t0; f3; f2; f1; f0; the locals]
+    move ! (10 ∷ 15 ∷ 0 ∷ []) $ had_back ! tt R ws.1.1.1.0 b₄ o₄ ν ζ $
+    move ! (11 ∷ 14 ∷ 3 ∷ []) $ had_back ! tt R ws.1.1.0 b₃ o₃ μ ε $
+    move ! (11 ∷ 13 ∷ 5 ∷ []) $ had_back ! tt R ws.1.0 b₂ o₂ β δ $
+    move ! (11 ∷ 12 ∷ 7 ∷ []) $ had_back ! tt R ws.0 b o α γ $
+    returns ! (look_at ! 0 refl) $ free_all ! refl $ keep ! (9 ∷ 0 ∷ 1 ∷ 2 ∷ 3 ∷ []) $
+    by ! (ending 𝓤 𝓛 𝓜 𝓡 κs qs bounds b o b₂ o₂ b₃ o₃ b₄ o₄ ask v u r g (ws.0, ws.1.0, ws.1.1.0, ws.1.1.1.0) told))))))))))))))))
