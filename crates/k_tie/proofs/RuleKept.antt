@@ -181,7 +181,7 @@ takes id other v u l t hs is =
     subst P (sym is) (λ s k at n there. joined s k id other l t hs u at n there)
 
 -- an event is added
-pub append_allows : (slots : ℕ) (e : Event) (id : ℕ) (me : Me (Unit {0}) View) (l : List Event) (t : List ℕ) → me.0 ≡ Journal l t [] → length l < 2 ^ 32 - 1
+pub append_allows : (slots : ℕ) (e : Event) (id : ℕ) (me : Me (Unit {0}) View) (l : List Event) (t : List ℕ) → me.0 ≡ Journal l t [] → length l < 2 ^ 64 - 1
     → Allows Holds slots id me 0 (λ n. (n + 1) % 2 ^ 64) (λ _ w. w ≡ (after_append e me.0, me.1))
 append_allows slots e id me l t is room s h counts at fits =
     let w = Journal (l ++ e ∷ []) t [] in
@@ -199,9 +199,9 @@ append_allows slots e id me l t is room s h counts at fits =
         (λ j u n at'. others_fit h.list l' h.touches h.touches u (no_other s.words s.views h id j l t [] u at n at') (λ g _ fits. (prefix_longer g.list h.list e fits.0, fits.1)) (h.fits j u at'))
         (ap (λ (m : List Event). m ++ e ∷ []) f.0, f.1, tt) in
         let P : List ℕ → Type 0 = λ ws. KeepsRule (set ws 0 ((slice_index ws 0 + 1) % 2 ^ 64)) (set s.views id w) in
-        let few : length h.list < 2 ^ 32 - 1 = subst (λ (m : List Event). length m < 2 ^ 32 - 1) f.0 room in
+        let few : length h.list < 2 ^ 64 - 1 = subst (λ (m : List Event). length m < 2 ^ 64 - 1) f.0 room in
         let n : length l' ≡ (length h.list + 1) % 2 ^ 64 = wrapped (length h.list) (length l') (length-append h.list (e ∷ [])) few in
         subst P (sym h.word) (subst (λ (m : ℕ). KeepsRule (m ∷ []) (set s.views id w)) n k)
       where
-        wrapped : (n m : ℕ) → m ≡ n + 1 → n < 2 ^ 32 - 1 → m ≡ (n + 1) % 2 ^ 64
+        wrapped : (n m : ℕ) → m ≡ n + 1 → n < 2 ^ 64 - 1 → m ≡ (n + 1) % 2 ^ 64
         wrapped n m e lt = omega arith

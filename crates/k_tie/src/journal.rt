@@ -37,7 +37,7 @@ impl JournalSeat {
     /// `touch`.
     pub fn append(&mut self, tie: &Tie, event: &Event)
         requires table { self.old.table ≡ tie.now }
-        requires room { length self.old.list < 2 ^ 32 - 1 }
+        requires room { length self.old.list < 2 ^ 64 - 1 }
         ensures { self.new ≡ record self.old { list = self.old.list ++ event.now ∷ [] } }
     {
         self.append_as::<Brand>(tie, event)
@@ -46,7 +46,7 @@ impl JournalSeat {
     fn append_as<E: AppendedEvent>(&mut self, tie: &Tie, event: &Event)
         requires event { event.now ≡ E.event }
         requires table { self.old.table ≡ tie.now }
-        requires room { length self.old.list < 2 ^ 32 - 1 }
+        requires room { length self.old.list < 2 ^ 64 - 1 }
         ensures { self.new ≡ record self.old { list = self.old.list ++ E.event ∷ [] } }
     {
         tie.table
