@@ -16,3 +16,4 @@ pub use Rattle.k_agree.proofs.Means
 pub use Rattle.k_agree.proofs.SoundSteps
 pub use Rattle.k_agree.proofs.SoundStore
 pub use Rattle.k_agree.proofs.UseShown
+pub use Rattle.k_journal.proofs.Counted

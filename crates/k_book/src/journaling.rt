@@ -3,6 +3,7 @@ ghost use Rattle.std.specs.Prelude.{◌≡◌, ◌≢◌, ◌+◌, ◌<◌, ◌�
 ghost use Rattle.k_types.specs.Complete.{IsPrefixOf};
 ghost use Rattle.k_agree.specs.k_tie.Rule.{total_of};
 ghost use Rattle.k_journal.specs.Kept.{with_event, with_touch};
+ghost use Rattle.k_journal.specs.Objects.{objects_told};
 
 use crate::parts::Book;
 use k_agree::Note;
@@ -10,15 +11,23 @@ use k_types::Event;
 
 impl Book {
     /// The number of events of the journal, those that are not kept among them.
-    pub fn len(&self) -> u32
+    pub fn len(&self) -> u64
         ensures length { result ≡ length self.now.journal.list }
         ensures room { length self.now.journal.list ≤ self.now.event_room }
+        ensures few { self.now.event_room < 2 ^ 55 }
     {
         self.journal.len()
     }
 
+    /// How many objects there are by what the events say, the directory with them, which is there before the first. Constant time.
+    pub fn objects(&self) -> u64
+        ensures { result ≡ objects_told self.now.journal.list }
+    {
+        self.journal.objects()
+    }
+
     /// The event of that number, from 0, which is among the last that are kept.
-    pub fn event(&self, number: u32) -> &Event
+    pub fn event(&self, number: u64) -> &Event
         requires there { number < length self.now.journal.list }
         requires kept { length self.now.journal.list ≤ number + self.now.kept }
         ensures { slice_get self.now.journal.list number ≡ Some result.now }
@@ -43,7 +52,7 @@ impl Book {
         ensures note { note.new ≡ record note.old { list = self.old.journal.list } }
         ensures prefix { IsPrefixOf note.old.list self.old.journal.list }
         ensures share { note.old.share ≡ total_of self.old.journal.touches note.old.cell }
-        ensures few { self.old.event_room < 2 ^ 32 }
+        ensures few { self.old.event_room < 2 ^ 55 }
     {
         self.journal.meet_in_place(note);
     }

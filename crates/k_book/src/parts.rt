@@ -62,7 +62,7 @@ impl Book {
         alloc: Global,
         setup: &Setup,
         exits: u32,
-        events: u32,
+        events: u64,
         kept: u32,
         tie: Tie,
         seat: JournalSeat,
@@ -70,6 +70,7 @@ impl Book {
         requires rows { AreRows setup.now.limits.items }
         requires few_rows { length setup.now.limits.items < 2 ^ 32 }
         requires few_segments { HasFewSegments setup.now }
+        requires few_events { events < 2 ^ 55 }
         requires table { seat.table ≡ tie }
         requires empty { seat.list ≡ [] }
         ensures made { IfOk result (λ b. (b ≡ opened setup.now exits events kept seat) × (first_refused setup.now.limits.items ≡ None)) }

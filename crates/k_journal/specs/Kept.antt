@@ -4,6 +4,7 @@ use Rattle.atomic_table.specs.Seated.{TableId}
 use Rattle.circular_buffer.specs.Buffer.{Buffer, keep_last}
 use Rattle.k_types.specs.declared.event.Event.{Event}
 use Rattle.k_tie.specs.Values.{JournalValue}
+use Rattle.k_journal.specs.Objects.{objects_told}
 
 -- the journal as its seat knows it, for how many events there is room, and how many of the last ones can be read
 pub record KeptJournal : Type 0 where
@@ -19,11 +20,12 @@ with_event event journal = record journal { list = journal.list ++ event ∷ [] 
 abbrev pub with_touch : ℕ → JournalValue → JournalValue
 with_touch cell journal = record journal { touches = cell ∷ journal.touches }
 
--- the seat is of that table, the count is that of the events that it knows, for which there is room and whose numbers fit 32 bits, and
--- the last of them are kept
-pub record AreKept (table : TableId) (journal : JournalValue) (count room : ℕ) (last : Buffer Event) : Type 0 where
+-- the seat is of that table, the count is that of the events that it knows, for which there is room, the objects are counted by them, and the
+-- last of them are kept. There are fewer than 2^55, so that the bytes of two heaps with as many objects fit 64 bits
+pub record AreKept (table : TableId) (journal : JournalValue) (count objects room : ℕ) (last : Buffer Event) : Type 0 where
   pub same : journal.table ≡ table
   pub counted : count ≡ length journal.list
+  pub objects_counted : objects ≡ objects_told journal.list
   pub within : length journal.list ≤ room
-  pub few : room < 2 ^ 32
+  pub few : room < 2 ^ 55
   pub kept : last.items ≡ keep_last last.capacity journal.list

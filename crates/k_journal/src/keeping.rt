@@ -1,23 +1,40 @@
 //! The events with their seat.
-ghost use Rattle.std.specs.Prelude.{◌≡◌, ◌≢◌, ◌+◌, ◌<◌, ◌≤◌, ◌^◌, [], Some, IfOk, length, slice_get};
+ghost use Rattle.std.specs.Prelude.{◌≡◌, ◌≢◌, ◌+◌, ◌-◌, ◌<◌, ◌≤◌, ◌^◌, [], Some, IfOk, length, slice_get};
 ghost use Rattle.k_types.specs.Complete.{IsPrefixOf};
 ghost use Rattle.k_tie.specs.Rule.{total_of};
 ghost use Rattle.k_journal.specs.Kept.{with_event, with_touch};
+ghost use Rattle.k_journal.specs.Objects.{objects_by, objects_told};
 
 use circular_buffer::HeapCircularBuffer;
 use k_io::NoMemory;
 use k_tie::{JournalSeat, Note, Tie};
-use k_types::Event;
+use k_types::{Event, Reply};
 use std::alloc::Global;
 use std::marker::Model;
+
+/// How many objects there are after the event, where there were so many before it.
+fn objects_by(objects: u64, event: &Event) -> u64
+    requires { objects < 2 ^ 64 - 1 }
+    ensures { result ≡ objects_by objects event.now }
+{
+    match *event {
+        Event::Done {
+            reply: Reply::Made(_),
+            ..
+        } => objects + 1,
+        Event::Ended { freed_objects, .. } => objects.saturating_sub(u64::from(freed_objects)),
+        _ => objects,
+    }
+}
 
 /// The events of the run in order, of which the last ones can be read, and for each cell how many of them touch it. A note belongs to
 /// it that is of its table.
 pub struct Journal {
     tie: Tie,
     seat: JournalSeat,
-    count: u32,
-    room: u32,
+    count: u64,
+    objects: u64,
+    room: u64,
     last: HeapCircularBuffer<Event>,
 }
 
@@ -27,6 +44,7 @@ impl Drop for Journal {
             tie: _,
             seat: _,
             count: _,
+            objects: _,
             room: _,
             last: _,
         } = self;
@@ -42,7 +60,7 @@ impl Model for Journal {
 
     ghost view = { λ j. record { journal = j.seat; room = j.room; kept = j.last.capacity } };
 
-    ghost invariant = { λ j. AreKept j.tie j.seat j.count j.room j.last };
+    ghost invariant = { λ j. AreKept j.tie j.seat j.count j.objects j.room j.last };
 }
 
 impl Journal {
@@ -52,11 +70,12 @@ impl Journal {
         alloc: Global,
         tie: Tie,
         seat: JournalSeat,
-        room: u32,
+        room: u64,
         kept: u32,
     ) -> Result<Journal, NoMemory>
         requires table { seat.table ≡ tie }
         requires empty { seat.list ≡ [] }
+        requires few { room < 2 ^ 55 }
         ensures { IfOk result (λ made. made ≡ record { journal = seat; room = room; kept = kept }) }
     {
         let last = HeapCircularBuffer::with_capacity(alloc, kept as usize)?;
@@ -64,22 +83,31 @@ impl Journal {
             tie,
             seat,
             count: 0,
+            objects: 1,
             room,
             last,
         })
     }
 
     /// The number of events, those that are not kept among them.
-    pub fn len(&self) -> u32
+    pub fn len(&self) -> u64
         ensures length { result ≡ length self.now.journal.list }
         ensures room { length self.now.journal.list ≤ self.now.room }
+        ensures few { self.now.room < 2 ^ 55 }
     {
         self.count
     }
 
+    /// How many objects there are by what the events say, the directory with them, which is there before the first. Constant time.
+    pub fn objects(&self) -> u64
+        ensures { result ≡ objects_told self.now.journal.list }
+    {
+        self.objects
+    }
+
     /// The event of that number, from 0, which is among the last that are kept.
     #[tactic(auto, using(crate::proofs::Lasting::kept_at))]
-    pub fn event(&self, number: u32) -> &Event
+    pub fn event(&self, number: u64) -> &Event
         requires there { number < length self.now.journal.list }
         requires kept { length self.now.journal.list ≤ number + self.now.kept }
         ensures { slice_get self.now.journal.list number ≡ Some result.now }
@@ -93,11 +121,12 @@ impl Journal {
 
     /// Adds an event at the end. Where no more are kept, the first of those that are is forgotten. Which cells it touches is said by
     /// `touch_in_place`.
-    #[tactic(auto, using(crate::proofs::Lasting::kept_on))]
+    #[tactic(auto, using(crate::proofs::Counted::told_low))]
     pub fn append(&mut self, event: Event)
         requires { length self.old.journal.list < self.old.room }
         ensures { self.new ≡ record self.old { journal = with_event event self.old.journal } }
     {
+        self.objects = objects_by(self.objects, &event);
         self.seat.append(&self.tie, &event);
         self.last.push_back(event);
         self.count += 1;
@@ -111,7 +140,7 @@ impl Journal {
         ensures note { note.new ≡ record note.old { list = self.old.journal.list } }
         ensures prefix { IsPrefixOf note.old.list self.old.journal.list }
         ensures share { note.old.share ≡ total_of self.old.journal.touches note.old.cell }
-        ensures few { self.old.room < 2 ^ 32 }
+        ensures few { self.old.room < 2 ^ 55 }
     {
         self.seat.meet_in_place(&self.tie, note);
     }
