@@ -23,7 +23,7 @@ pub struct HeapCell {
     pub(crate) holdings: Holdings,
     pub(crate) pid: Pid,
     pub(crate) registers: [Option<Link>; 16],
-    pub(crate) done: u32,
+    pub(crate) done: u64,
     pub(crate) has_ended: bool,
     // The oldest comes first.
     pub(crate) tail: VecDeque<Event>,

@@ -23,7 +23,7 @@ impl HeapCell {
 
     /// Counts one more operation of the process as done.
     pub fn count_done(&mut self)
-        requires { done_in self.old.value.process < 2 ^ 32 - 1 }
+        requires { done_in self.old.value.process < 2 ^ 64 - 1 }
         ensures { self.new ≡ record self.old { value = with_one_done self.old.value } }
     {
         self.done += 1;

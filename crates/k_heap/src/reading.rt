@@ -32,7 +32,7 @@ impl HeapCell {
     }
 
     /// How many of its operations are done. Constant time.
-    pub fn done(&self) -> u32
+    pub fn done(&self) -> u64
         ensures { result ≡ done_in self.now.value.process }
     {
         self.done

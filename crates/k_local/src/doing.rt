@@ -29,7 +29,7 @@ pub fn local(cell: &mut HeapCell, op: &Op) -> Option<Reply>
     requires registers { HasRegisters op.now }
     requires idle { cell.old.value.collection ≡ Idle }
     requires room { length cell.old.value.tail < cell.old.tail_room }
-    requires count { done_in cell.old.value.process < 2 ^ 32 - 1 }
+    requires count { done_in cell.old.value.process < 2 ^ 64 - 1 }
     ensures answer { result ≡ local_answer cell.old.value cell.old.pid.0 op.now }
     ensures told { is_some result ≡ is_local_in (idle_part cell.old.value) cell.old.pid.0 op.now }
     ensures none { IfNone result (cell.new ≡ cell.old) }
