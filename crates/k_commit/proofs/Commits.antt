@@ -153,7 +153,7 @@ module _ (before : Before) (c : HeapRecord) (b : BookRecord) (op : Op) (said : R
   after : IsCommitted before.trace before.book.journal (Done before.cell.pid op said) alone b.value
   after = committed before.trace before.book.journal (Done before.cell.pid op said) alone b.value can
 
-  pub heap_done_small : done_in c.value.process < 2 ^ 32 - 1
+  pub heap_done_small : done_in c.value.process < 2 ^ 64 - 1
   heap_done_small =
       let few = h.have_met.few in
       let room = h.may.room in
@@ -200,7 +200,7 @@ module _ (before : BeforeWith) (c : HeapRecord) (o : OtherValue) (b : BookRecord
   both_after : IsCommitted before.own.trace before.own.book.journal (Done before.own.cell.pid op said) both b.value
   both_after = committed before.own.trace before.own.book.journal (Done before.own.cell.pid op said) both b.value both_can
 
-  pub both_done_small : done_in c.value.process < 2 ^ 32 - 1
+  pub both_done_small : done_in c.value.process < 2 ^ 64 - 1
   both_done_small =
       let few = h.have_met.own.few in
       let room = h.may.room in

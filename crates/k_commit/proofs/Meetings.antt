@@ -22,7 +22,7 @@ use Rattle.k_commit.specs.Standing.{BookStands, HeapStands, OtherStands}
 use Rattle.k_commit.specs.Stepped.{HasStepped}
 
 -- a cell whose note fits the journal of the book
-pub told_by : (trace : Trace) (cell : Cell) (note : NoteValue) (value : CellValue) (b : BookRecord) → CanMeet trace cell note value b → Fits b.journal note → b.event_room < 2 ^ 32 →
+pub told_by : (trace : Trace) (cell : Cell) (note : NoteValue) (value : CellValue) (b : BookRecord) → CanMeet trace cell note value b → Fits b.journal note → b.event_room < 2 ^ 55 →
     FitsTheBook trace cell note value b
 told_by trace cell note value b can fits few = record {
   fits = fits;

@@ -26,7 +26,7 @@ pub record CanMeet (trace : Trace) (cell : Cell) (note : NoteValue) (value : Cel
 pub record FitsTheBook (trace : Trace) (cell : Cell) (note : NoteValue) (value : CellValue) (book : BookRecord) : Type 0 where
   pub fits : Fits book.journal note
   pub shows : ShowsTheJournal trace book.journal cell note value
-  pub few : book.event_room < 2 ^ 32
+  pub few : book.event_room < 2 ^ 55
 
 -- the process's cell has met the journal of the book, and nothing else has changed
 pub record HeapHasMet (trace : Trace) (old_cell cell : HeapRecord) (old_book book : BookRecord) : Type 0 where
@@ -69,7 +69,7 @@ pub record HaveMet (before : Before) : Type 0 where
   pub book : BookStands before.trace before.book
   pub heap : HeapStands before.trace before.cell before.book
   pub after : ShowsAfter before.trace (User before.cell.pid) before.cell.note before.cell.value before.book
-  pub few : before.book.event_room < 2 ^ 32
+  pub few : before.book.event_room < 2 ^ 55
 
 -- so do both cells and the book
 pub record HaveMetWith (before : BeforeWith) : Type 0 where

@@ -41,11 +41,11 @@ pub fn steps_began_before_the_meeting()
         HasSteppedWith trace op cell w other x last l event → HasSteppedWith trace op c w o x b l event }
 {}
 
-/// What is counted fits 32 bits, and the pins have room for one more: the operations that the process has done, the entries and the
-/// pins of an object.
+/// What is counted fits its numbers, and the pins have room for one more: the operations that the process has done fit 64 bits, the entries
+/// and the pins of an object 32.
 pub fn counts_fit()
-    ensures done { (before : Before) → HaveMet before → HasEventRoom before.book → done_in before.cell.value.process < 2 ^ 32 - 1 }
-    ensures entries { (before : Before) → HaveMet before → HasEventRoom before.book → (n : Name) → counted before.book.value.entries n < 2 ^ 32 - 1 }
+    ensures done { (before : Before) → HaveMet before → HasEventRoom before.book → done_in before.cell.value.process < 2 ^ 64 - 1 }
+    ensures entries { (before : Before) → HaveMet before → (n : Name) → counted before.book.value.entries n < 2 ^ 32 - 1 }
     ensures pins { (before : Before) → HaveMet before → (n : Name) → counted before.book.value.pins n < 2 ^ 32 - 1 }
     ensures pin_room { (before : Before) → HaveMet before → AreEntries (book_pins before.book) → length before.book.value.pins < before.book.pin_room }
 {}

@@ -7,7 +7,7 @@
 //! [`charge_process`] charges a process, and [`resize_limit`] sets a maximum. [`publish`] appends what a process did inside its heap.
 //! No call takes memory.
 //!
-//! The laws give the conditions of the calls of cells and book that no step asks of its caller: counts fit 32 bits, and bytes 64.
+//! The laws give the conditions of the calls of cells and book that no step asks of its caller: counts and bytes fit their numbers.
 #![tactic(auto)]
 
 mod appending;

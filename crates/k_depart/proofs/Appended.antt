@@ -364,7 +364,7 @@ module _ (trace : Trace) (c0 c : HeapRecord) (k0 k : HoldingsValue) (b0 b1 b : B
     ap (λ (x : HoldingsValue). x.note.list) given.kernel_is ∙ exiting.have_met.after.met.list ∙ sym (ap (λ (x : BookRecord). x.journal.list) given.book_is),
   )
 
-  pub exit_counts : done_in c1.value.process < 2 ^ 32 - 1
+  pub exit_counts : done_in c1.value.process < 2 ^ 64 - 1
   exit_counts =
       let same = given.done in
       let small = done_small (record { trace = trace; cell = c; book = b }) exiting.have_met.own exiting.room.events in

@@ -156,9 +156,9 @@ module _ (trace : Trace) (c0 c t0 t : HeapRecord) (k0 k : HoldingsValue) (b0 b1 
       (subst (λ (x : HoldingsValue). HaveMetToExit trace (record t0 { note = met_note b0.journal t0.note }) x b) (sym kernel_met)
       (subst (λ (l : BookRecord). HaveMetToExit trace (record t0 { note = met_note b0.journal t0.note }) (record k0 { note = met_note b0.journal k0.note }) l) (sym book_met) met_here))
 
-  pub own_counts : done_in c.value.process < 2 ^ 32 - 1
+  pub own_counts : done_in c.value.process < 2 ^ 64 - 1
   own_counts =
-      subst (λ (x : HeapRecord). done_in x.value.process < 2 ^ 32 - 1) (sym cell_met)
+      subst (λ (x : HeapRecord). done_in x.value.process < 2 ^ 64 - 1) (sym cell_met)
       (done_small (record { trace = trace; cell = record c0 { note = met_note b0.journal c0.note }; book = b0 }) own_met room_here.events)
 
   -- the event

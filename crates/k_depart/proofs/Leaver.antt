@@ -18,7 +18,7 @@ use Rattle.k_types.specs.State.{State, has_share, is_scanned}
 use Rattle.k_types.specs.Steps.{IsPossible, in_range, state_after}
 use Rattle.k_types.specs.Totals.{total}
 use Rattle.k_types.specs.Trace.{Trace, limit_of, process_count, segment_count}
-use Rattle.k_base.proofs.Lists.{get_mapped, none_is}
+use Rattle.k_base.proofs.Lists.{none_is}
 use Rattle.k_base.proofs.NameTests.{heap_eq_sym}
 use Rattle.k_laws.specs.Changes.{MayExit}
 use Rattle.k_laws.proofs.SoundSteps.{legal_sound}
@@ -30,7 +30,7 @@ use Rattle.k_agree.proofs.Openings.{home_at}
 use Rattle.k_agree.proofs.Swept.{among_kept}
 use Rattle.k_bounds.specs.Counts.{one_if}
 use Rattle.k_commit.specs.k_book.Books.{BookRecord}
-use Rattle.k_known.proofs.Maxima.{max_small}
+use Rattle.k_commit.proofs.Fitting.{direct_low}
 use Rattle.k_commit.specs.k_cell.Holdings.{HoldingsValue}
 use Rattle.k_changes.specs.BookChanges.{registers_in}
 use Rattle.k_commit.specs.Met.{Before}
@@ -45,12 +45,6 @@ use Rattle.k_depart.specs.Segments.{CanGive}
 use Rattle.k_depart.proofs.Leaving.{and_none}
 use Rattle.k_depart.proofs.Told.{cell_bytes, exits_shown, home_count, other_made, owned_made, user_numbered}
 use Rattle.k_depart.proofs.Weighed.{objects_weigh}
-use Rattle.k_base.proofs.Charges.{direct_within}
-
-some_rows : (rows : List LimitRow) (maxima : List ℕ) → 0 < length rows → 0 < length (with_maxima rows maxima)
-some_rows [] maxima some = absurd (omega (arith, some))
-some_rows (row ∷ rows) [] some = some
-some_rows (row ∷ rows) (max ∷ maxima) some = omega arith
 
 module _ (trace : Trace) (c : HeapRecord) (k : HoldingsValue) (b : BookRecord) (met : HaveMetToExit trace c k b) where
   abbrev pub now : State
@@ -157,25 +151,11 @@ module _ (trace : Trace) (c : HeapRecord) (k : HoldingsValue) (b : BookRecord) (
       let limit = ap (λ m. get_or b.value.direct m 0) limit_is in
       omega (arith, there, same, limit)
 
-  direct_is : get_or b.value.direct (limit_of trace c.pid.0) 0 ≡ direct_by trace (charge_of trace now) (limit_of trace c.pid.0)
-  unfolding book_part
-  direct_is =
-      ap (λ (x : BookPart). get_or x.direct (limit_of trace c.pid.0) 0) booked.part
-      ∙ get_mapped (direct_by trace (charge_of trace now)) 0 (length trace.limits) (limit_of trace c.pid.0) limited
-      ∙ ap (direct_by trace (charge_of trace now)) (none_more (limit_of trace c.pid.0))
-    where
-      none_more : (m : ℕ) → 0 + m ≡ m
-      none_more m = omega arith
-
   pub direct_small : get_or b.value.direct (limit_in b c.pid.0) 0 < 2 ^ 64
   direct_small =
-      let m = limit_of trace c.pid.0 in
       let limit = ap (λ i. get_or b.value.direct i 0) limit_is in
-      let direct = direct_is in
-      let within = direct_within (limits_in trace now) (direct_by trace (charge_of trace now)) (length (limits_in trace now)) m (some_rows trace.limits now.maxima (let some = limited in omega (arith, some))) in
-      let fits = sound.uses m limited in
-      let few = max_small trace b.journal.list met.have_met.own.book.keeps.limits met.have_met.own.book.agrees.legal m limited in
-      omega (arith, limit, direct, within, fits, few)
+      let low = direct_low trace b.journal.list b.value met.have_met.own.book.keeps.limits met.have_met.own.book.agrees.legal booked c.pid.0 known in
+      omega (arith, limit, low)
 
   -- the exit items
   pub kernel_entered : AreEntered (into_segment (own_segment c.pid) k.value.exits) b.value

@@ -39,7 +39,7 @@ pub record HaveMetToAbsorb (trace : Trace) (shared : SharedRecord) (kernel : Hol
   pub after : ShowsAfter trace (Shared shared.id) shared.note shared.value book
   pub kernel_after : ShowsAfter trace Kernel kernel.note kernel.value book
   pub events : HasEventRoom book
-  pub few : book.event_room < 2 ^ 32
+  pub few : book.event_room < 2 ^ 55
 
 -- both cells and the book show the state after the absorption, which is not appended yet
 pub record HasTakenOver (trace : Trace) (old_shared shared : SharedRecord) (old_kernel kernel : HoldingsValue) (old_book book : BookRecord) : Type 0 where

@@ -151,7 +151,7 @@ module _ (before : Before) (c : HeapRecord) (b : BookRecord) (base : Reg) (i : �
             (owner_mine before c b op due x mine) h (home_told before c b op due value.0 y h at_y is) other refused)
 
         pub store_entry_small : counted b.value.entries y < 2 ^ 32 - 1
-        store_entry_small = subst (λ (k : BookRecord). counted k.value.entries y < 2 ^ 32 - 1) (sym due.book_is) (entries_small before due.have_met due.may.room y)
+        store_entry_small = subst (λ (k : BookRecord). counted k.value.entries y < 2 ^ 32 - 1) (sym due.book_is) (entries_small before due.have_met y)
 
         module _ (w : HeapRecord) (k : BookRecord) (w_is : w ≡ record c { value = with_field x i (Refers (Some y)) (with_exit_item y c.value) })
             (k_is : k ≡ record b { value = record b.value { entries = k.value.entries } })

@@ -78,7 +78,7 @@ module _ (before : BeforeWith) (c : HeapRecord) (o : OtherValue) (b : BookRecord
         idle = other_idle before c o b op met;
         told = told y at_y;
         room = met.room.tables;
-        counts = entries_small here met.have_met.own met.room.events;
+        counts = entries_small here met.have_met.own;
       })
 
   module _ (x : Name) (at_x : held_in c.value.process base.0 ≡ Some x) where
