@@ -24,23 +24,24 @@ use Rattle.k_collect.proofs.Sizes.{freed_few, freed_light}
 
 -- the numbers of what goes fit, by what the cell has seen
 module _ (trace : Trace) (cell : Cell) (note : NoteValue) (v : CellValue) (can : CanSweepAlone trace cell note v) where
-  seen_few : length (note.list ++ v.tail) < 2 ^ 32 - 1
-  seen_few = let both = length-append note.list v.tail in let short = can.short in omega (arith, both, short)
-
   pub objects_alone : freed_objects v < 2 ^ 32
-  objects_alone = let most = freed_few trace (note.list ++ v.tail) can.keeps can.agrees.legal cell v can.agrees.shows in omega (arith, most, seen_few)
+  objects_alone = let most = freed_few trace (note.list ++ v.tail) can.keeps can.agrees.legal cell v can.agrees.shows in let few = can.few in omega (arith, most, few)
 
-  pub bytes_alone : freed_bytes v < 2 ^ 40
-  bytes_alone = let most = freed_light trace (note.list ++ v.tail) can.keeps can.agrees.legal cell v can.agrees.shows in omega (arith, most, seen_few)
+  pub bytes_alone : freed_bytes v < 2 ^ 64
+  bytes_alone =
+      let most = freed_light trace (note.list ++ v.tail) can.keeps can.agrees.legal cell v can.agrees.shows in
+      let both = length-append note.list v.tail in
+      let short = can.short in
+      omega (arith, most, both, short)
 
 -- a process's cell meets the journal, is swept, and its collection ends
 module _ (trace : Trace) (c d : HeapRecord) (b k : BookRecord) (can : CanEndHeap trace c b) (met : HeapHasMet trace c d b k) where
-  short_met : length b.journal.list + length c.value.tail < 2 ^ 32 - 1
+  short_met : length b.journal.list + length c.value.tail < 2 ^ 55
   short_met = let none = ap length can.collects.settled in let few = met.told.few in let room = can.room met.told.fits in omega (arith, none, few, room)
 
   pub can_sweep_met : CanSweepAlone trace (User d.pid) d.note d.value
   can_sweep_met = subst (λ (y : HeapRecord). CanSweepAlone trace (User y.pid) y.note y.value) (sym met.cell_is)
-      (record { keeps = can.book_stands.keeps; agrees = met.told.shows.agrees; marked = can.collects.in_phase; short = short_met })
+      (record { keeps = can.book_stands.keeps; agrees = met.told.shows.agrees; marked = can.collects.in_phase; few = can.few met.told.fits; short = short_met })
 
   pub can_end_met : CanEndHeap trace d k
   can_end_met = subst (λ (y : BookRecord). CanEndHeap trace d y) (sym met.book_is)
@@ -49,6 +50,7 @@ module _ (trace : Trace) (c d : HeapRecord) (b k : BookRecord) (can : CanEndHeap
         book_stands = can.book_stands;
         collects = record { agrees = met.told.shows.agrees; table = can.collects.table; settled = can.collects.settled; in_phase = can.collects.in_phase };
         room = λ _. can.room met.told.fits;
+        few = λ _. can.few met.told.fits;
       }))
 
   module _ (s w : HeapRecord) (l : BookRecord) (freed : Swept) (e : Event) (sweeps : HasSweptAlone d s freed) where
@@ -66,12 +68,12 @@ module _ (trace : Trace) (c d : HoldingsValue) (b k : BookRecord) (can : CanEndK
   kernel_settled : c.value.tail ≡ []
   kernel_settled = can.collects.agrees.tail
 
-  kernel_short : length b.journal.list + length c.value.tail < 2 ^ 32 - 1
+  kernel_short : length b.journal.list + length c.value.tail < 2 ^ 55
   kernel_short = let none = ap length kernel_settled in let few = met.told.few in let room = can.room met.told.fits in omega (arith, none, few, room)
 
   pub kernel_can_sweep_met : CanSweepAlone trace Kernel d.note d.value
   kernel_can_sweep_met = subst (λ (y : HoldingsValue). CanSweepAlone trace Kernel y.note y.value) (sym (ap held_by met.other_is))
-      (record { keeps = can.book_stands.keeps; agrees = met.told.shows.agrees; marked = can.collects.in_phase; short = kernel_short })
+      (record { keeps = can.book_stands.keeps; agrees = met.told.shows.agrees; marked = can.collects.in_phase; few = can.few met.told.fits; short = kernel_short })
 
   pub kernel_can_end_met : CanEndKernel trace d k
   kernel_can_end_met = subst (λ (y : BookRecord). CanEndKernel trace d y) (sym met.book_is)
@@ -80,6 +82,7 @@ module _ (trace : Trace) (c d : HoldingsValue) (b k : BookRecord) (can : CanEndK
         book_stands = can.book_stands;
         collects = record { agrees = met.told.shows.agrees; table = can.collects.table; in_phase = can.collects.in_phase };
         room = λ _. can.room met.told.fits;
+        few = λ _. can.few met.told.fits;
       }))
 
   module _ (s w : HoldingsValue) (l : BookRecord) (freed : Swept) (e : Event) (sweeps : KernelHasSweptAlone d s freed) where

@@ -178,7 +178,7 @@ module _ (trace : Trace) (c : HeapRecord) (b : BookRecord) (can : CanBeginHeap t
   registers_there = registers_all trace (now trace c b can.book_stands can.heap_stands told) c.pid c.value (sound_now (before trace c b can.book_stands can.heap_stands told) (met trace c b can.book_stands can.heap_stands told))
       (met trace c b can.book_stands can.heap_stands told).after.shows (process_known (before trace c b can.book_stands can.heap_stands told) (met trace c b can.book_stands can.heap_stands told))
 
-  pub done_fits : done_in c.value.process < 2 ^ 32 - 1
+  pub done_fits : done_in c.value.process < 2 ^ 64 - 1
   done_fits = done_small (before trace c b can.book_stands can.heap_stands told) (met trace c b can.book_stands can.heap_stands told) (can.room told.fits)
 
   pub begun_heap : (w : CellValue) → HasGrayed (is_root_by (User c.pid) b c.value) (begun [] c.value) w →

@@ -32,9 +32,9 @@ module _ (trace : Trace) (c : HeapRecord) (b : BookRecord) (can : CanBeginHeap t
   registers_met = ap (λ (x : HeapRecord). length (registers_in x.value.process)) met.cell_is ∙ registers_there trace c b can met.told
 
   module _ (e : HeapRecord) (grayed : HasGrayed (is_root_by (User d.pid) k d.value) (begun [] d.value) e.value) where
-    pub done_counts : done_in e.value.process < 2 ^ 32 - 1
+    pub done_counts : done_in e.value.process < 2 ^ 64 - 1
     done_counts =
-        subst (λ q. done_in q < 2 ^ 32 - 1)
+        subst (λ q. done_in q < 2 ^ 64 - 1)
         (sym (ap (λ (v : CellValue). v.process) grayed.rest ∙ ap (λ (x : HeapRecord). x.value.process) met.cell_is)) (done_fits trace c b can met.told)
 
     module _ (f : HeapRecord) (kept : e ≡ record d { value = e.value }) (counts : f ≡ record e { value = with_one_done e.value }) where
@@ -82,8 +82,8 @@ module _ (trace : Trace) (c : HeapRecord) (k : HoldingsValue) (b : BookRecord) (
     kernel_told : FitsTheBook trace Kernel k.note k.value b
     kernel_told = subst (FitsTheBook trace Kernel k.note k.value) met.book_is kernel_met.told
 
-    pub kernel_done_counts : done_in d.value.process < 2 ^ 32 - 1
-    kernel_done_counts = subst (λ (x : HeapRecord). done_in x.value.process < 2 ^ 32 - 1) (sym met.cell_is) (kernel_done_fits trace c k b can met.told kernel_told)
+    pub kernel_done_counts : done_in d.value.process < 2 ^ 64 - 1
+    kernel_done_counts = subst (λ (x : HeapRecord). done_in x.value.process < 2 ^ 64 - 1) (sym met.cell_is) (kernel_done_fits trace c k b can met.told kernel_told)
 
     module _ (n : HoldingsValue) (f : HeapRecord) (kept : n ≡ record m { value = n.value }) (grayed : HasGrayed (is_root_by Kernel j m.value) (begun [] m.value) n.value) (counts : f ≡ record d { value = with_one_done d.value }) where
       cell_is : f ≡ record c { note = met_note b.journal c.note; value = with_one_done c.value }

@@ -40,13 +40,14 @@ use Rattle.k_lawful.proofs.Laws.{possible_events_are_lawful}
 use Rattle.k_commit.specs.k_moves.Moves.{noted}
 use Rattle.k_squares.proofs.Laws.{what_is_let_go_is_counted-entries}
 use Rattle.k_commit.specs.Met.{FitsTheBook}
+use Rattle.k_commit.proofs.Fitting.{direct_low}
 use Rattle.k_collect.specs.Collecting.{CanEndHeap, CanEndKernel}
 use Rattle.k_collect.specs.Ended.{HasEndedHeap, HasEndedKernel, HaveWhatIsLeft}
 use Rattle.k_collect.specs.Leaving.{HasItsEntries}
 use Rattle.k_collect.specs.Unsharing.{CanUnshare, HasUnshared, bytes_lost, has_way_by, shares_lost, ways_left}
 use Rattle.k_collect.proofs.WhatGoes.{CanSweep, HasSweptHeap, HasSweptKernel, IsSwept, owners_now}
 use Rattle.k_collect.proofs.Roots.{registers_all}
-use Rattle.k_collect.proofs.Sizes.{credit_is_charged, freed_light, freed_own, unshared_light}
+use Rattle.k_collect.proofs.Sizes.{credit_is_charged, freed_own}
 use Rattle.k_collect.proofs.Unshared.{same_bytes_lost}
 use Rattle.k_collect.proofs.Ways.{way_kept}
 use Rattle.k_types.specs.declared.names.LimitId.{LimitId}
@@ -59,12 +60,6 @@ module _ (trace : Trace) (cell : Cell) (note : NoteValue) (v : CellValue) (b : B
 
   pub sound : IsSound trace now
   sound = legal_sound trace b.journal.list can.book_stands.keeps.limits can.book_stands.agrees.legal
-
-  pub events_few : length b.journal.list < 2 ^ 32 - 1
-  events_few = let few = can.few in let room = can.room in omega (arith, few, room)
-
-  pub bytes_small : freed_bytes v < 2 ^ 40
-  bytes_small = let most = freed_light trace b.journal.list can.book_stands.keeps can.book_stands.agrees.legal cell v can.after.shows in omega (arith, most, events_few)
 
   pub entries_there : HasItsEntries v b.value
   entries_there n there =
@@ -187,12 +182,6 @@ module _ (trace : Trace) (c : HeapRecord) (b : BookRecord) (can : CanSweep trace
   pub lost_shares : shares_lost stays b.value p (numbers_below (length b.value.phases)) ≡ dropped_shares trace (owners_now trace b) b.value c.value p
   lost_shares = ap (λ n. shares_lost stays b.value p (numbers_below n)) phases_count
 
-  unshared_few : bytes_unshared trace (owners_now trace b) b.value c.value p ≤ 2 ^ 40 * 64
-  unshared_few = unshared_light trace b.journal.list can.book_stands.keeps can.book_stands.agrees.legal b.value can.book_stands.agrees.shows (events_few trace (User c.pid) c.note c.value b can) c.value p
-
-  pub credit_fits : freed_bytes c.value + bytes_unshared trace (owners_now trace b) b.value c.value p < 2 ^ 64
-  credit_fits = let low = bytes_small trace (User c.pid) c.note c.value b can in omega (arith, low, unshared_few)
-
   pub limit_there : limit_of trace p < length b.rows
   limit_there = subst (λ (n : ℕ). limit_of trace p < n) (sym (ap length can.book_stands.of_trace.rows ∙ length_in trace.limits (replicate (length trace.limits) 0))) (can.book_stands.keeps.limits.limited p known)
 
@@ -202,6 +191,11 @@ module _ (trace : Trace) (c : HeapRecord) (b : BookRecord) (can : CanSweep trace
   pub credit_within : freed_bytes c.value + bytes_unshared trace (owners_now trace b) b.value c.value p ≤ get_or b.value.direct (limit_of trace p) 0
   credit_within = credit_is_charged trace here p c.value b.value can.book_stands.keeps (sound trace (User c.pid) c.note c.value b can) known lives can.book_stands.agrees.shows can.after.shows
       (freed_own trace b.journal.list can.book_stands.keeps can.book_stands.agrees.legal (User c.pid) c.value can.after.shows)
+
+  pub credit_fits : freed_bytes c.value + bytes_unshared trace (owners_now trace b) b.value c.value p < 2 ^ 64
+  credit_fits =
+      let low = direct_low trace b.journal.list b.value can.book_stands.keeps.limits can.book_stands.agrees.legal can.book_stands.agrees.shows p known in
+      omega (arith, credit_within, low)
 
   -- the ways that are left by segments are those that the process keeps
   pub ways_same : (w : CellValue) (k : BookRecord) → ChangesEntries b k → w.process ≡ c.value.process → ((n : Name) → name_among n w.exits ≡ name_among n (swept c.value).exits) →
@@ -228,7 +222,7 @@ module _ (trace : Trace) (c : HeapRecord) (b : BookRecord) (can : CanSweep trace
     bytes =
         let same = same_bytes_lost (ways_left w p k) stays p k (ways_same w k changes process exits) (numbers_below (length k.value.phases)) in
         let now = ap (λ (x : BookRecord). bytes_lost stays x.value p (numbers_below (length x.value.phases))) changes in
-        omega (arith, same, now, lost_bytes, unshared_few);
+        omega (arith, same, now, lost_bytes, credit_fits);
   }
 
   -- the book after what goes has gone
@@ -350,7 +344,6 @@ heap_can_be_swept trace c b can told = record {
   book_stands = can.book_stands;
   after = record { met = told.shows.met; shows = told.shows.shows can.collects.settled };
   marked = can.collects.in_phase;
-  few = told.few;
   room = can.room told.fits;
 }
 
@@ -360,7 +353,6 @@ kernel_can_be_swept trace c b can told = record {
   book_stands = can.book_stands;
   after = record { met = told.shows.met; shows = told.shows.shows can.collects.agrees.tail };
   marked = can.collects.in_phase;
-  few = told.few;
   room = can.room told.fits;
 }
 

@@ -139,7 +139,7 @@ module _ (trace : Trace) (c : HeapRecord) (k : HoldingsValue) (b : BookRecord) (
   unfolding book_after book_operated
   kcollect_book = steps_show_in_the_parts-book trace now kcollect can.book_stands.keeps.limits (sound_now before both_met) kcollect_possible
 
-  pub kernel_done_fits : done_in c.value.process < 2 ^ 32 - 1
+  pub kernel_done_fits : done_in c.value.process < 2 ^ 64 - 1
   kernel_done_fits = done_small before both_met (can.room told.fits kernel_told.fits)
 
   module _ (w : CellValue) (grayed : HasGrayed (is_root_by Kernel b k.value) (begun [] k.value) w) where

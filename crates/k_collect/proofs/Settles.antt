@@ -19,7 +19,7 @@ use Rattle.k_commit.specs.Others.{held_by}
 use Rattle.k_commit.specs.Published.{CanPublish, HasPublished}
 use Rattle.k_commit.specs.Rooms.{HasEventRoom}
 use Rattle.k_commit.specs.Standing.{BookStands}
-use Rattle.k_collect.specs.Collecting.{CanEndHeap, CanEndKernel}
+use Rattle.k_collect.specs.Collecting.{CanEndHeap, CanEndKernel, HasFewObjects}
 use Rattle.k_collect.specs.Ended.{HasEndedHeap, HasEndedKernel}
 use Rattle.k_collect.specs.Marking.{CanMark, HasMarkedOn}
 use Rattle.k_collect.specs.Settling.{AreEnds, CanSettleHeap, CanSettleKernel, HasSettledHeap, HasSettledKernel, IsTheEnd, KeepsBook, KeepsCell, ends_to_come}
@@ -96,11 +96,15 @@ module _ (trace : Trace) (c : HeapRecord) (b : BookRecord) (can : CanSettleHeap 
         let events = ap (λ (x : BookRecord). x.event_room) p.book_is in
         omega (arith, room, one, list, events)
 
+    few_then : HasFewObjects d.value
+    few_then = subst (λ (x : HeapRecord). HasFewObjects x.value) (sym p.cell_is) (can.few p.fits)
+
     pub can_end_marked : d.value.collection ≡ Marked → CanEndHeap trace d k
     can_end_marked marked = record {
       book_stands = still_stands;
       collects = record { agrees = p.agrees; table = p.table; settled = ap (λ (x : HeapRecord). x.value.tail) p.cell_is; in_phase = marked };
       room = λ fits. room_for_end (subst IsOpen (sym marked) marked_is_open);
+      few = λ fits. few_then;
     }
 
     pub can_mark_begun : d.value.collection ≡ Begun → CanMark trace (User d.pid) d.note d.value
@@ -118,6 +122,7 @@ module _ (trace : Trace) (c : HeapRecord) (b : BookRecord) (can : CanSettleHeap 
               in_phase = marked.phase;
             };
             room = λ fits. room_for_end (subst IsOpen (sym begun) begun_is_open);
+            few = λ fits. subst HasFewObjects (sym marked.rest) few_then;
           })
 
     module _ (w x : HeapRecord) (l : BookRecord) (e : Event) (rest : w ≡ record d { value = w.value }) (h : HasEndedHeap trace w x k l e) (is_open : IsOpen d.value.collection) where
@@ -214,11 +219,15 @@ module _ (trace : Trace) (c : HoldingsValue) (b : BookRecord) (can : CanSettleKe
       let events = ap (λ (x : BookRecord). x.event_room) p.book_is in
       omega (arith, room, one, list, events)
 
+  kernel_few_then : HasFewObjects d.value
+  kernel_few_then = subst (λ (x : HoldingsValue). HasFewObjects x.value) (sym (ap held_by p.other_is)) (can.few p.told.fits)
+
   pub kernel_can_end_marked : d.value.collection ≡ Marked → CanEndKernel trace d k
   kernel_can_end_marked marked = record {
     book_stands = kernel_stands_still;
     collects = record { agrees = kernel_agrees; table = kernel_table_of; in_phase = marked };
     room = λ fits. kernel_room_for_end (subst IsOpen (sym marked) marked_is_open);
+    few = λ fits. kernel_few_then;
   }
 
   pub kernel_can_mark : d.value.collection ≡ Begun → CanMark trace Kernel d.note d.value
@@ -230,6 +239,7 @@ module _ (trace : Trace) (c : HoldingsValue) (b : BookRecord) (can : CanSettleKe
         book_stands = kernel_stands_still;
         collects = record { agrees = marked.agrees; table = kernel_table_of; in_phase = marked.phase };
         room = λ fits. kernel_room_for_end (subst IsOpen (sym begun) begun_is_open);
+        few = λ fits. subst HasFewObjects (sym marked.rest) kernel_few_then;
       })
 
   module _ (w x : HoldingsValue) (l : BookRecord) (e : Event) (rest : w ≡ record d { value = w.value }) (h : HasEndedKernel trace w x k l e) (is_open : IsOpen d.value.collection) where

@@ -1,11 +1,11 @@
 -- The numbers of the end of a collection fit, and what it credits is charged.
-use Rattle.std.proofs.Common.{◌≡◌, ◌+◌, ◌-◌, ◌*◌, ◌<◌, ◌≤◌, ◌^◌, ◌&&◌, not, Bool, true, false, cond, ℕ, ap, List, [], ◌∷◌, length, map, arith, get_or, IsFalse}
-use Rattle.k_types.specs.declared.names.Heap.{Heap}
+use Rattle.std.proofs.Common.{◌≡◌, ◌+◌, ◌-◌, ◌*◌, ◌<◌, ◌≤◌, ◌^◌, ◌&&◌, not, Bool, true, false, cond, ℕ, ap, List, ◌++◌, length, arith, get_or, IsFalse}
+use Rattle.std.proofs.lemmas.List.{length-append}
 use Rattle.k_types.specs.Agree.{BookValue, CellValue}
 use Rattle.k_types.specs.Cells.{BookPart, Cell, ShownPart, book_part, part}
 use Rattle.k_types.specs.Names.{among, heap_eq, name_among}
 use Rattle.k_types.specs.Numbers.{numbers_below}
-use Rattle.k_types.specs.Owners.{bytes_by, bytes_of, object_bytes, objects_of, owner_of, shared, user}
+use Rattle.k_types.specs.Owners.{object_bytes, objects_of, owner_of, user}
 use Rattle.k_types.specs.Sound.{IsSound}
 use Rattle.k_types.specs.State.{State, has_share}
 use Rattle.k_types.specs.Steps.{IsLegalHistory, state_after}
@@ -13,55 +13,49 @@ use Rattle.k_types.specs.Totals.{total}
 use Rattle.k_types.specs.Trace.{Trace, limit_of, process_count}
 use Rattle.k_types.specs.TraceRules.{KeepsRules}
 use Rattle.k_types.specs.declared.event.Event.{Event}
-use Rattle.k_base.proofs.Lists.{numbers_length, length-kept}
+use Rattle.k_base.proofs.Lists.{length-kept}
 use Rattle.k_base.proofs.Sums.{total_at_most}
 use Rattle.k_bounds.specs.Counts.{has_allocated}
 use Rattle.k_bounds.proofs.Counting.{count_low, total_fewer}
 use Rattle.k_bounds.proofs.Laws.{objects_are_at_most_the_allocations}
 use Rattle.k_known.proofs.Fitting.{objects_bounded}
-use Rattle.k_agree.specs.Agreement.{BookShows, Shows}
+use Rattle.k_tie.specs.Values.{NoteValue}
+use Rattle.k_agree.specs.Agreement.{Agrees, BookShows, Shows}
 use Rattle.k_agree.specs.Ending.{bytes_unshared, freed_bytes, freed_objects, keeps_way}
 use Rattle.k_squares.proofs.Laws.{what_is_let_go_is_counted-charges}
-use Rattle.k_commit.proofs.Fitting.{read_low}
+use Rattle.k_collect.specs.Collecting.{HasFewObjects}
 
--- a sum of numbers that are at most 2 ^ 40
-sum_low : (f : ℕ → ℕ) (xs : List ℕ) → ((x : ℕ) → f x ≤ 2 ^ 40) → total f xs ≤ 2 ^ 40 * length xs
-sum_low f [] low = omega arith
-sum_low f (x ∷ xs) low = let one = low x in let rest = sum_low f xs low in omega (arith, one, rest)
+-- each event makes at most one object, beside the directory
+pub objects_few : (trace : Trace) (history : List Event) → length (state_after trace history).objects ≤ 1 + length history
+objects_few trace history =
+    let objects = objects_are_at_most_the_allocations trace history in
+    let events = count_low has_allocated history in
+    omega (arith, objects, events)
 
 module _ (trace : Trace) (history : List Event) (keeps : KeepsRules trace) (legal : IsLegalHistory trace history) where
   abbrev now : State
   now = state_after trace history
 
-  objects_few : length now.objects ≤ 1 + length history
-  objects_few =
-      let objects = objects_are_at_most_the_allocations trace history in
-      let events = count_low has_allocated history in
-      omega (arith, objects, events)
-
   bytes_few : total object_bytes now.objects ≤ 144 * (1 + length history)
   bytes_few =
       let fit = objects_bounded trace history keeps.limits (record { types = keeps.fields; directory = keeps.directory }) legal in
       let bytes = fit.bytes in
-      omega (arith, bytes, objects_few)
-
-  heap_bytes : (h : Heap) → bytes_of trace now h ≤ 144 * (1 + length history)
-  unfolding bytes_by
-  heap_bytes h =
-      let fewer = total_fewer object_bytes (λ o. heap_eq (owner_of trace now o.name.seg.0) h) now.objects in
-      omega (arith, fewer, bytes_few)
+      let objects = objects_few trace history in
+      omega (arith, bytes, objects)
 
   module _ (cell : Cell) (v : CellValue) (shows : Shows trace now cell v) where
     objects_are : v.objects ≡ objects_of (owner_of trace now) cell now.objects
     unfolding part
     objects_are = ap (λ (s : ShownPart). s.objects) shows.part
 
-    pub freed_few : freed_objects v ≤ 1 + length history
-    freed_few =
-        let kept = length-kept (λ o. not (name_among o.name v.black)) v.objects in
+    pub held_few : length v.objects ≤ length now.objects
+    held_few =
         let own = ap length objects_are in
         let mine = length-kept (λ o. heap_eq (owner_of trace now o.name.seg.0) cell) now.objects in
-        omega (arith, kept, own, mine, objects_few)
+        omega (arith, own, mine)
+
+    pub freed_few : freed_objects v ≤ length v.objects
+    freed_few = length-kept (λ o. not (name_among o.name v.black)) v.objects
 
     pub freed_own : freed_bytes v ≤ total object_bytes v.objects
     freed_own = total_fewer object_bytes (λ o. not (name_among o.name v.black)) v.objects
@@ -72,28 +66,13 @@ module _ (trace : Trace) (history : List Event) (keeps : KeepsRules trace) (lega
         let mine = total_fewer object_bytes (λ o. heap_eq (owner_of trace now o.name.seg.0) cell) now.objects in
         omega (arith, freed_own, own, mine, bytes_few)
 
-  module _ (b : BookValue) (seen : BookShows trace now b) (few : length history < 2 ^ 32 - 1) where
-    shared_are : b.shared_bytes ≡ map (λ s. bytes_of trace now (shared s)) (numbers_below trace.shared_heaps)
-    unfolding book_part
-    shared_are = ap (λ (k : BookPart). k.shared_bytes) seen.part
-
-    shared_low : (t : ℕ) → get_or b.shared_bytes t 0 ≤ 2 ^ 40
-    shared_low t =
-        let same = ap (λ (bytes : List ℕ). get_or bytes t 0) shared_are in
-        let low = read_low (λ s. bytes_of trace now (shared s)) (numbers_below trace.shared_heaps) t (144 * (1 + length history)) (λ s. heap_bytes (shared s)) in
-        omega (arith, same, low, few)
-
-    at_most : (t : Bool) (n most : ℕ) → n ≤ most → cond t n 0 ≤ most
-    at_most true n most low = low
-    at_most false n most low = omega arith
-
-    pub unshared_light : (v : CellValue) (p : ℕ) → bytes_unshared trace (owner_of trace now) b v p ≤ 2 ^ 40 * 64
-    unshared_light v p =
-        let sum = sum_low (λ t. cond (has_share b.shares p t && not (keeps_way (owner_of trace now) b v p t)) (get_or b.shared_bytes t 0) 0) (numbers_below trace.shared_heaps)
-        (λ t. at_most (has_share b.shares p t && not (keeps_way (owner_of trace now) b v p t)) (get_or b.shared_bytes t 0) (2 ^ 40) (shared_low t)) in
-        let size = numbers_length 0 trace.shared_heaps in
-        let heaps = keeps.shared in
-        omega (arith, sum, size, heaps)
+-- a cell that has seen few events has few objects
+pub few_held : (trace : Trace) (cell : Cell) (note : NoteValue) (v : CellValue) → KeepsRules trace → Agrees trace cell note v → length note.list + length v.tail < 2 ^ 32 - 1 → HasFewObjects v
+few_held trace cell note v keeps agrees short =
+    let held = held_few trace (note.list ++ v.tail) keeps agrees.legal cell v agrees.shows in
+    let most = objects_few trace (note.list ++ v.tail) in
+    let both = length-append note.list v.tail in
+    omega (arith, held, most, both, short)
 
 less_lost : (a b : Bool) (n : ℕ) → cond (a && not b) n 0 ≤ cond (a && true) n 0
 less_lost true true n = omega arith

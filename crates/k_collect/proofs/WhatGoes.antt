@@ -28,7 +28,6 @@ pub record CanSweep (trace : Trace) (cell : Cell) (note : NoteValue) (value : Ce
   pub book_stands : BookStands trace book
   pub after : ShowsAfter trace cell note value book
   pub marked : value.collection ≡ Marked
-  pub few : book.event_room < 2 ^ 32
   pub room : HasEventRoom book
 
 -- who owns the segments after the events of the journal

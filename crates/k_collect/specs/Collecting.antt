@@ -1,8 +1,9 @@
 -- What the calls of a collection ask: cells in the phase of their collection, a book that stands, and room for one event.
-use Rattle.std.specs.Prelude.{◌≡◌, [], None, IsFalse, IsTrue}
+use Rattle.std.specs.Prelude.{◌≡◌, ◌<◌, ◌^◌, [], None, IsFalse, IsTrue, length}
 use Rattle.k_types.specs.declared.names.CellPhase.{CellPhase}
 use Rattle.k_types.specs.declared.names.CellPhase.TheVariants.{Marked}
 use Rattle.k_types.specs.declared.names.Heap.TheVariants.{Kernel, User}
+use Rattle.k_types.specs.Agree.{CellValue}
 use Rattle.k_types.specs.Trace.{Trace}
 use Rattle.k_agree.specs.Agreement.{Agrees}
 use Rattle.k_agree.specs.Meeting.{Fits}
@@ -27,17 +28,22 @@ pub record KernelCollects (trace : Trace) (kernel : HoldingsValue) (book : BookR
   pub table : kernel.note.table ≡ book.journal.table
   pub in_phase : kernel.value.collection ≡ phase
 
+-- 32 bits count the objects of the cell
+abbrev pub HasFewObjects : CellValue → Type 0
+HasFewObjects value = length value.objects < 2 ^ 32
+
 -- cell and book stand, and once the note fits the journal there is room for the event
 pub record CanBeginHeap (trace : Trace) (cell : HeapRecord) (book : BookRecord) : Type 0 where
   pub book_stands : BookStands trace book
   pub heap_stands : HeapStands trace cell book
   pub room : Fits book.journal cell.note → HasEventRoom book
 
--- the book stands, the process's cell is marked, and once the note fits the journal there is room for the event
+-- the book stands, the process's cell is marked, and once the note fits the journal there is room for the event and the cell has few objects
 pub record CanEndHeap (trace : Trace) (cell : HeapRecord) (book : BookRecord) : Type 0 where
   pub book_stands : BookStands trace book
   pub collects : HeapCollects trace cell book Marked
   pub room : Fits book.journal cell.note → HasEventRoom book
+  pub few : Fits book.journal cell.note → HasFewObjects cell.value
 
 -- both cells and the book stand, no shared heap is an orphan, and once the notes fit the journal there is room for the event
 pub record CanBeginKernel (trace : Trace) (cell : HeapRecord) (kernel : HoldingsValue) (book : BookRecord) : Type 0 where
@@ -47,11 +53,12 @@ pub record CanBeginKernel (trace : Trace) (cell : HeapRecord) (kernel : Holdings
   pub orphans : lowest_orphan book.value.phases book.value.shares ≡ None
   pub room : Fits book.journal cell.note → Fits book.journal kernel.note → HasEventRoom book
 
--- the book stands, the kernel's cell is marked, and once the note fits the journal there is room for the event
+-- the book stands, the kernel's cell is marked, and once the note fits the journal there is room for the event and the cell has few objects
 pub record CanEndKernel (trace : Trace) (kernel : HoldingsValue) (book : BookRecord) : Type 0 where
   pub book_stands : BookStands trace book
   pub collects : KernelCollects trace kernel book Marked
   pub room : Fits book.journal kernel.note → HasEventRoom book
+  pub few : Fits book.journal kernel.note → HasFewObjects kernel.value
 
 -- the kernel's cell and the book stand, every process has ended, no shared heap is an orphan, the last collection has not begun yet, and
 -- once the note fits the journal there is room for the event

@@ -17,6 +17,7 @@ use Rattle.k_commit.specs.k_cell.Holdings.{HoldingsValue}
 use Rattle.k_commit.specs.k_heap.Heaps.{HeapRecord}
 use Rattle.k_commit.specs.Standing.{BookStands}
 use Rattle.k_collect.specs.Begun.{HeapGoesOn, KernelGoesOn}
+use Rattle.k_collect.specs.Collecting.{HasFewObjects}
 
 -- how many events end a collection in this phase
 abbrev pub ends_to_come : CellPhase → ℕ
@@ -25,12 +26,13 @@ ends_to_come Begun = 1
 ends_to_come Marked = 1
 
 -- the book stands, the process's cell agrees and is of its table, whatever its phase and its unpublished events, and once the note fits
--- the journal there is room for these and for the end of an open collection
+-- the journal there is room for these and for the end of an open collection, and the cell has few objects
 pub record CanSettleHeap (trace : Trace) (cell : HeapRecord) (book : BookRecord) : Type 0 where
   pub book_stands : BookStands trace book
   pub agrees : Agrees trace (User cell.pid) cell.note cell.value
   pub table : cell.note.table ≡ book.journal.table
   pub room : Fits book.journal cell.note → length book.journal.list + length cell.value.tail + ends_to_come cell.value.collection ≤ book.event_room
+  pub few : Fits book.journal cell.note → HasFewObjects cell.value
 
 -- the same of the kernel's cell, which has no unpublished events
 pub record CanSettleKernel (trace : Trace) (kernel : HoldingsValue) (book : BookRecord) : Type 0 where
@@ -38,6 +40,7 @@ pub record CanSettleKernel (trace : Trace) (kernel : HoldingsValue) (book : Book
   pub agrees : Agrees trace Kernel kernel.note kernel.value
   pub table : kernel.note.table ≡ book.journal.table
   pub room : Fits book.journal kernel.note → length book.journal.list + ends_to_come kernel.value.collection ≤ book.event_room
+  pub few : Fits book.journal kernel.note → HasFewObjects kernel.value
 
 -- the one event that ends a collection of the heap
 pub record IsTheEnd (heap : Heap) (events : List Event) : Type 0 where

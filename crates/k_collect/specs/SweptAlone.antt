@@ -14,14 +14,15 @@ use Rattle.k_commit.specs.k_book.Books.{BookRecord}
 use Rattle.k_commit.specs.k_cell.Changes.{with_black_alone}
 use Rattle.k_commit.specs.k_cell.Holdings.{HoldingsValue}
 use Rattle.k_commit.specs.k_heap.Heaps.{HeapRecord}
-use Rattle.k_collect.specs.Collecting.{CanEndHeap, CanEndKernel}
+use Rattle.k_collect.specs.Collecting.{CanEndHeap, CanEndKernel, HasFewObjects}
 
--- the cell agrees and is marked, and it has seen so few events that the objects of its heap can be counted
+-- the cell agrees and is marked, it has few objects, and it has seen so few events that 64 bits have the bytes of its objects
 pub record CanSweepAlone (trace : Trace) (cell : Cell) (note : NoteValue) (value : CellValue) : Type 0 where
   pub keeps : KeepsRules trace
   pub agrees : Agrees trace cell note value
   pub marked : value.collection ≡ Marked
-  pub short : length note.list + length value.tail < 2 ^ 32 - 1
+  pub few : HasFewObjects value
+  pub short : length note.list + length value.tail < 2 ^ 55
 
 -- the process's cell has its black objects alone, nothing else of it has changed, and the numbers are those of the objects that went
 pub record HasSweptAlone (old_cell cell : HeapRecord) (freed : Swept) : Type 0 where
@@ -52,11 +53,11 @@ pub record NoteHasMet (old_cell cell : HeapRecord) (old_book book : BookRecord) 
   pub cell_is : cell ≡ record old_cell { note = met_note old_book.journal old_cell.note }
   pub book_is : book ≡ old_book
   pub fits : Fits old_book.journal old_cell.note
-  pub few : old_book.event_room < 2 ^ 32
+  pub few : old_book.event_room < 2 ^ 55
 
 -- the note of the kernel's cell has met it, and nothing else has changed
 pub record KernelNoteHasMet (old_kernel kernel : HoldingsValue) (old_book book : BookRecord) : Type 0 where
   pub kernel_is : kernel ≡ record old_kernel { note = met_note old_book.journal old_kernel.note }
   pub book_is : book ≡ old_book
   pub fits : Fits old_book.journal old_kernel.note
-  pub few : old_book.event_room < 2 ^ 32
+  pub few : old_book.event_room < 2 ^ 55

@@ -39,6 +39,7 @@ use Rattle.k_operate.specs.k_process.Worlds.{WorldValue}
 use Rattle.k_operate.specs.Absorbing.{HasAbsorbedOrphans}
 use Rattle.k_operate.specs.Collecting.{KernelCollects}
 use Rattle.k_operate.proofs.AbsorbKept.{first_is, first_told, sound_at_last}
+use Rattle.k_operate.proofs.KernelCollected.{kernel_few_seen}
 use Rattle.k_operate.proofs.Appended.{journal_short, open_once_met, room_for, room_for_end, stands_on}
 use Rattle.k_complete.specs.Closing.{CanCollectLast, HasClosedAll, HasCollectedLast}
 use Rattle.k_operate.specs.k_process.Over.{BookEnds}
@@ -134,6 +135,7 @@ module _ (world : WorldValue) (k : HoldingsValue) (b : BookRecord) (can : CanCol
         book_stands = stands_closed;
         collects = record { agrees = m.agrees; table = m.table ∙ sym table_closed; in_phase = m.in_phase };
         room = λ fits. room_for_end world.trace l Kernel stands_closed first_closed room_closed (open_once_met world.trace l Kernel y.note y.value stands_closed m.agrees m.agrees.tail m.in_phase fits);
+        few = λ fits. kernel_few_seen world y m;
       }
 
       module _ (z : HoldingsValue) (e : BookRecord) (last : Event) (t : HasEndedKernel world.trace y z l e last) where

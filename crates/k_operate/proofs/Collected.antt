@@ -25,7 +25,8 @@ use Rattle.k_process.specs.k_book.Books.{BookRecord}
 use Rattle.k_process.specs.k_cell.Changes.{with_black_alone}
 use Rattle.k_process.specs.k_heap.Heaps.{HeapRecord, own_segment}
 use Rattle.k_steps.specs.Begun.{HasAppended, HasBegunHeap}
-use Rattle.k_steps.specs.Collecting.{CanBeginHeap, CanEndHeap}
+use Rattle.k_steps.proofs.Sizes.{few_held}
+use Rattle.k_steps.specs.Collecting.{CanBeginHeap, CanEndHeap, HasFewObjects}
 use Rattle.k_steps.specs.Ended.{HasEndedHeap}
 use Rattle.k_steps.specs.Marking.{CanMark, HasMarkedOn}
 use Rattle.k_steps.specs.SweptAlone.{CanEndSwept, CanSweepAlone, HasSweptAlone}
@@ -129,11 +130,15 @@ module _ (world : WorldValue) (p : Process) (h : Collects world Begun p) where
 
 -- the sweep
 module _ (world : WorldValue) (p : Process) (h : Collects world Marked p) where
+  few_seen : HasFewObjects p.cell.value
+  few_seen = let none = ap length h.settled in let short = h.short in few_held world.trace (User p.cell.pid) p.cell.note p.cell.value h.rules h.agrees (omega (arith, none, short))
+
   pub can_sweep : CanSweepAlone world.trace (User p.cell.pid) p.cell.note p.cell.value
   can_sweep = record {
     keeps = h.rules;
     agrees = h.agrees;
     marked = h.in_phase;
+    few = few_seen;
     short = let few = h.short in let none = ap length h.settled in omega (arith, few, none);
   }
 
@@ -150,6 +155,7 @@ module _ (world : WorldValue) (p : Process) (b : BookRecord) (h : Collects world
     book_stands = k.stands;
     collects = record { agrees = h.agrees; table = h.table ∙ sym k.table; settled = h.settled; in_phase = h.in_phase };
     room = λ fits. room_for_end world.trace b (User p.cell.pid) k.stands k.follows.operations k.events (open_once_met world.trace b (User p.cell.pid) p.cell.note p.cell.value k.stands h.agrees h.settled h.in_phase fits);
+    few = λ fits. few_seen world p h;
   }
 
   module _ (fits : Fits b.journal p.cell.note) (c : HeapRecord) (l : BookRecord) (event : Event) (s : HasEndedHeap world.trace p.cell c b l event) where

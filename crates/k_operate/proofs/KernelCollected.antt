@@ -17,7 +17,8 @@ use Rattle.k_process.specs.k_cell.Changes.{with_black_alone}
 use Rattle.k_process.specs.k_cell.Holdings.{HoldingsValue}
 use Rattle.k_process.specs.k_heap.Heaps.{HeapRecord}
 use Rattle.k_steps.specs.Begun.{HasAppended, HasBegunKernel}
-use Rattle.k_steps.specs.Collecting.{CanBeginKernel, CanEndKernel}
+use Rattle.k_steps.proofs.Sizes.{few_held}
+use Rattle.k_steps.specs.Collecting.{CanBeginKernel, CanEndKernel, HasFewObjects}
 use Rattle.k_steps.specs.Ended.{HasEndedKernel}
 use Rattle.k_steps.specs.Marking.{CanMark, HasMarkedOn}
 use Rattle.k_steps.specs.SweptAlone.{CanEndSweptKernel, CanSweepAlone}
@@ -110,14 +111,20 @@ module _ (world : WorldValue) (k : HoldingsValue) (h : KernelCollects world Begu
 
 -- the sweep
 module _ (world : WorldValue) (k : HoldingsValue) (h : KernelCollects world Marked k) where
+  kernel_settled : k.value.tail ≡ []
+  kernel_settled = h.agrees.tail
+
+  pub kernel_few_seen : HasFewObjects k.value
+  kernel_few_seen = let none = ap length kernel_settled in let short = h.short in few_held world.trace Kernel k.note k.value h.rules h.agrees (omega (arith, none, short))
+
   pub can_sweep_kernel : CanSweepAlone world.trace Kernel k.note k.value
   can_sweep_kernel = record {
     keeps = h.rules;
     agrees = h.agrees;
     marked = h.in_phase;
+    few = kernel_few_seen;
     short =
-        let settled : k.value.tail ≡ [] = h.agrees.tail in
-        let none = ap length settled in
+        let none = ap length kernel_settled in
         let few = h.short in
         omega (arith, few, none);
   }
@@ -129,6 +136,7 @@ module _ (world : WorldValue) (k : HoldingsValue) (b : BookRecord) (h : KernelCo
     book_stands = keeps.stands;
     collects = record { agrees = h.agrees; table = h.table ∙ sym keeps.table; in_phase = h.in_phase };
     room = λ fits. room_for_end world.trace b Kernel keeps.stands keeps.follows.operations keeps.events (open_once_met world.trace b Kernel k.note k.value keeps.stands h.agrees h.agrees.tail h.in_phase fits);
+    few = λ fits. kernel_few_seen world k h;
   }
 
   module _ (x : HoldingsValue) (l : BookRecord) (event : Event) (s : HasEndedKernel world.trace k x b l event) where

@@ -2,3 +2,4 @@ pub mod Told
 pub mod Once
 pub use Rattle.k_collect.proofs.Ends
 pub use Rattle.k_collect.proofs.KernelBegins
+pub use Rattle.k_collect.proofs.Sizes
