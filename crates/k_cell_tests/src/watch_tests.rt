@@ -23,7 +23,7 @@ fn small_book(alloc: Global, events: u32) -> Result<Book, Fail>
 {
     let setup = small_setup(alloc)?;
     let (tie, seat, _notes) = Tie::make(alloc, 4)?;
-    let book = Book::make(alloc, &setup, 2, events, events, tie, seat)?;
+    let book = Book::make(alloc, &setup, 2, u64::from(events), events, tie, seat)?;
     Ok(book)
 }
 
@@ -53,7 +53,7 @@ fn publish_all<R: Wait>(rt: &R, book: &mut Book, pen: &mut WatchPen, count: u32)
 
 /// Whether these are the numbers of a book that has grown so many times.
 fn is_published(sample: &Sample) -> bool {
-    sample.root_use == u64::from(sample.events).min(MOST_USE) && sample.living == 2
+    sample.root_use == sample.events.min(MOST_USE) && sample.living == 2
 }
 
 /// Takes so many samples, and counts those that no book here has, or that have fewer events than the one before.
@@ -98,6 +98,6 @@ fn samples_rise_while_another_thread_publishes(rt: HostRuntime) -> Result<(), Fa
         || count_wrong(&rt, &mut watcher, SAMPLES),
     );
     assert_eq!(rt; wrong, 0);
-    assert_eq!(rt; watcher.sample(&rt).events, SAMPLES);
+    assert_eq!(rt; watcher.sample(&rt).events, u64::from(SAMPLES));
     Ok(())
 }

@@ -155,7 +155,7 @@ module _ (trace : Trace) (table : TableId) (c : HeapRecord) (h : HeapKeeps trace
   done_is : done_in c.value.process ≡ length (done_by c.pid.0 known)
   done_is = sym (done_shown trace table c h) ∙ done_count trace c.pid.0 known h.agrees.legal
 
-  pub done_small : done_in c.value.process < 2 ^ 32 - 1
+  pub done_small : done_in c.value.process < 2 ^ 64 - 1
   done_small = let few = few_operations trace c.pid.0 h.rules h.agrees.there in omega (arith, done_is, done_fewer, few)
 
   module _ (lives : has_ended_in c.value.process ≡ false) (said : Reply) (answer : local_answer c.value c.pid.0 op ≡ Some said) where

@@ -42,7 +42,7 @@ pub fn next_operations_can_be_local()
     ensures room { (trace : Trace) (tie : TableId) (c : HeapRecord) (op : Op) (rest : List Op) → HeapKeeps trace tie c → operations_left trace c ≡ op ∷ rest →
         length c.value.tail < c.tail_room }
     ensures count { (trace : Trace) (tie : TableId) (c : HeapRecord) (op : Op) (rest : List Op) → HeapKeeps trace tie c → operations_left trace c ≡ op ∷ rest →
-        done_in c.value.process < 2 ^ 32 - 1 }
+        done_in c.value.process < 2 ^ 64 - 1 }
     ensures keeps { (trace : Trace) (tie : TableId) (c : HeapRecord) (op : Op) (rest : List Op) (said : Reply) → HeapKeeps trace tie c → operations_left trace c ≡ op ∷ rest →
         IsFalse (has_ended_in c.value.process) → local_answer c.value c.pid.0 op ≡ Some said →
         HeapKeeps trace tie (record c { value = after_local c.pid op said c.value }) × (operations_left trace (record c { value = after_local c.pid op said c.value }) ≡ rest) }

@@ -35,12 +35,12 @@ impl View for Outcome {
 
     /// Constant time.
     fn events(&self) -> u32 {
-        self.cells().book().len()
+        self.cells().book().len() as u32
     }
 
     /// Constant time.
     fn event(&self, i: u32) -> &Event {
-        self.cells().book().event(i)
+        self.cells().book().event(u64::from(i))
     }
 
     /// Passes the serials that were given between the two objects. A walk over all objects passes each serial once.

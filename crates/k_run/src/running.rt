@@ -4,6 +4,7 @@ ghost use Rattle.std.specs.Prelude.{◌≡◌};
 
 use crate::locks::Locks;
 use crate::ordering::HoldsNone;
+use crate::stepping::told;
 use crate::turning::{done_behind, turn_behind};
 use crate::world::World;
 use crate::worlds::WorldName;
@@ -19,7 +20,7 @@ use std::thread::Threads;
 const STEPS_A_TURN: u32 = 64;
 
 /// So many operations of a process end a turn. The last stretch of them may go beyond.
-const OPERATIONS_A_TURN: u32 = 1_024;
+const OPERATIONS_A_TURN: u64 = 1_024;
 
 /// The most workers of a run.
 pub(crate) const MOST_WORKERS: u32 = 4;
@@ -119,7 +120,7 @@ fn take_turn<W: WorldName, G: Gate>(
     };
     let mut done = first;
     for _ in 0..STEPS_A_TURN {
-        hall.gate.pass(pid.0, done, GatePlace::BeforeOp);
+        hall.gate.pass(pid.0, told(done), GatePlace::BeforeOp);
         let Some(next) = turn_behind(rt, order, hall.locks, lock, pid, hall.stretch, hall.gate)
         else {
             return false;

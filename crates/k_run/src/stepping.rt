@@ -16,9 +16,14 @@ use k_types::{Op, Pid};
 use k_watch::show;
 use std::sync::Wait;
 
+/// How many operations are done, as a gate is told it: a trace has fewer than 32 bits count.
+pub(crate) fn told(done: u64) -> u32 {
+    done.min(u64::from(u32::MAX)) as u32
+}
+
 /// Tells the gate that the process is at the place.
 pub(crate) fn tell(process: &Process, gate: &impl Gate, place: GatePlace) {
-    gate.pass(process.cell.pid().0, process.cell.done(), place);
+    gate.pass(process.cell.pid().0, told(process.cell.done()), place);
 }
 
 impl<W: WorldName> LockedProcess<W> {
@@ -31,7 +36,7 @@ impl<W: WorldName> LockedProcess<W> {
     }
 
     /// How many of its operations are done.
-    pub fn done(&self) -> u32
+    pub fn done(&self) -> u64
         ensures { result ≡ done_in self.now.value.process }
     {
         self.process.cell.done()
@@ -45,7 +50,7 @@ impl<W: WorldName> LockedProcess<W> {
     }
 
     /// How many of its operations are done, where it is the process and another comes next.
-    pub(crate) fn done_before_next(&self, pid: Pid) -> Option<u32>
+    pub(crate) fn done_before_next(&self, pid: Pid) -> Option<u64>
         ensures some { IfSome result (λ done. (done ≡ done_in self.now.value.process) × (self.now.pid ≡ pid)) }
         ensures none { IfNone result (self.now.pid ≡ pid → IsNextOf W.world.trace self.now None) }
     {

@@ -28,7 +28,7 @@ pub(crate) fn done_behind<W: WorldName>(
     order: &mut HoldsNone,
     lock: &Mutex<LockedProcess<W>>,
     pid: Pid,
-) -> Option<u32> {
+) -> Option<u64> {
     let (process, _) = lock_process(rt, order, lock);
     process.done_before_next(pid)
 }
@@ -217,7 +217,7 @@ pub(crate) fn turn_behind<W: WorldName>(
     pid: Pid,
     most: u32,
     gate: &impl Gate,
-) -> Option<u32> {
+) -> Option<u64> {
     let target = {
         let (mut process, mut under_process) = lock_process(rt, order, lock);
         match turn(rt, &mut under_process, locks, &mut process, gate) {

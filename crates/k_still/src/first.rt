@@ -43,7 +43,7 @@ fn open_book(
     requires { CanOpenBook world setup.now exits events tie seat }
     ensures { IfOk result (λ made. BookKeeps world.trace world.table made × (made.journal ≡ seat)) }
 {
-    match Book::make(alloc, setup, exits, events, events, tie, seat) {
+    match Book::make(alloc, setup, exits, u64::from(events), events, tie, seat) {
         Ok(book) => Ok(book),
         Err(MakeError::ReserveFull(_)) => unreachable!(),
         Err(MakeError::NoMemory(refused)) => Err(refused),

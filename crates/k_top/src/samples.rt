@@ -24,7 +24,7 @@ fn put_sample<K: Sink>(
     ensures empty { line.new ≡ [] }
 {
     line.push_text(b"sample");
-    line.push_number(u64::from(sample.events));
+    line.push_number(sample.events);
     line.push_number(sample.root_use);
     line.push_number(u64::from(sample.living));
     line.write_to(out)

@@ -14,9 +14,9 @@ words_of s = s.events ∷ s.root_use ∷ s.living ∷ []
 abbrev pub sample_in : List ℕ → Sample
 sample_in words = sample (slice_index words 0) (slice_index words 1) (slice_index words 2)
 
--- the first and the last number of the sample fit 32 bits
+-- the first number of the sample fits 64 bits, and the last 32
 abbrev pub IsSmall : Sample → Type 0
-IsSmall s = (s.events < 2 ^ 32) × (s.living < 2 ^ 32)
+IsSmall s = (s.events < 2 ^ 64) × (s.living < 2 ^ 32)
 
 -- none of these has more events
 abbrev pub AllBelow : ℕ → List Sample → Type 0

@@ -5,7 +5,7 @@ ghost use Rattle.k_watch.specs.Samples.{IsSmall, words_of};
 /// How many events the journal has, what is in use at the root limit in bytes, and how many processes have not ended.
 #[derive(Clone, Copy, Debug, PartialEq, Eq)]
 pub struct Sample {
-    pub events: u32,
+    pub events: u64,
     pub root_use: u64,
     pub living: u32,
 }
@@ -16,10 +16,6 @@ impl Sample {
         ensures words { result ≡ words_of self }
         ensures small { IsSmall self }
     {
-        [
-            u64::from(self.events),
-            self.root_use,
-            u64::from(self.living),
-        ]
+        [self.events, self.root_use, u64::from(self.living)]
     }
 }

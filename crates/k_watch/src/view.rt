@@ -5,7 +5,7 @@ use std::collections::LinkedList;
 /// What a watcher has taken, in order, and the least number of events that a later sample can have. No value of it is made.
 pub struct Taken {
     pub samples: LinkedList<Sample>,
-    pub least: u32,
+    pub least: u64,
 }
 
 /// What a pass knows: the pen what was published, and the watchers that it has in hand. While the cell is made there is one

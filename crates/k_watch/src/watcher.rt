@@ -42,7 +42,7 @@ impl Watcher {
     {
         let words = self.cell.load_as::<TakeSample, R>(rt, &mut self.pass);
         Sample {
-            events: words[0] as u32,
+            events: words[0],
             root_use: words[1],
             living: words[2] as u32,
         }
