@@ -27,7 +27,7 @@ enum kaffe_status {
     KAFFE_OWN_CALL = 2, /* the operation has a call of its own: no function of this header answers it */
     KAFFE_ENDED = 3,    /* the process has ended */
     KAFFE_PHASE = 4,    /* a collection of a heap that is touched is open: the functions of this header leave none open */
-    KAFFE_FULL = 5,     /* the journal has no room for the event, or the process has done 2^32 - 1 operations */
+    KAFFE_FULL = 5,     /* the journal has no room for the event, or the process has done 2^64 - 1 operations */
     KAFFE_NO_MEMORY = 6, /* memory is wanting for the object, and the supply of the process has no body of its type */
     KAFFE_ORPHAN = 7,   /* the shared heap to be absorbed is not the first orphan */
     KAFFE_NO_CALL = 8,  /* the request names no call */
@@ -69,13 +69,12 @@ enum kaffe_what {
 typedef struct kaffe_request { /* 32 bytes, passed by value */
     uint32_t call;             /* enum kaffe_call_number */
     uint32_t pid;              /* the process, from 0 in order of declaration */
-    uint32_t at;               /* a field, a type, a limit, a shared heap or the process that is killed, from 0 in order of declaration;
-                                  or the number of an event, from 0 */
+    uint32_t at;               /* a field, a type, a limit, a shared heap or the process that is killed, from 0 in order of declaration */
     uint32_t to;               /* the type, where at is a shared heap */
     uint8_t reg, base;         /* registers, 0 to 15 */
     uint8_t unused0, unused1;
     uint32_t unused2;
-    uint64_t number;           /* what a field or a limit's maximum becomes */
+    uint64_t number;           /* what a field or a limit's maximum becomes; or the number of an event, from 0 */
 } kaffe_request;
 
 typedef struct kaffe_answer {
@@ -122,7 +121,7 @@ enum kaffe_call_number {
     KAFFE_ASK_LEFT = 43,
     KAFFE_ASK_FREED_COUNT = 44,
     KAFFE_ASK_FREED_NAME = 45, /* at is the place of the name, from 0 */
-    KAFFE_ASK_EVENT = 46,      /* at is the number of the event, from 0 */
+    KAFFE_ASK_EVENT = 46,      /* number is that of the event, from 0 */
     KAFFE_ASK_CAME = 47        /* the same */
 };
 
@@ -133,8 +132,8 @@ enum kaffe_event_number {
 };
 
 /* For how much a host has room. The opening takes memory for all of it, and no call takes any for a table after it. */
-typedef struct kaffe_rooms { /* 28 bytes, passed by value */
-    uint32_t events;         /* events in the host's whole life: below 2^30, and at least three for each process, one for each shared heap
+typedef struct kaffe_rooms { /* 32 bytes, passed by value */
+    uint64_t events;         /* events in the host's whole life: below 2^55, and at least three for each process, one for each shared heap
                                 and three */
     uint32_t kept;           /* the last of them, which can be read and taken out: at most events */
     uint32_t tail;           /* events inside its heap that a process has before they come to the others: at least 1 */
@@ -256,7 +255,7 @@ static inline kaffe_answer kaffe_absorb(kaffe_host *h, uint32_t shared) {
     return kaffe_request_call(h, KAFFE_CALL_ABSORB, 0, shared, 0, 0, 0, 0);
 }
 
-/* Asks a question, KAFFE_ASK_LIVES to KAFFE_ASK_CAME, of the process, limit, register, place or event. It changes nothing. */
+/* Asks a question, KAFFE_ASK_LIVES to KAFFE_ASK_FREED_NAME, of the process, limit, register or place. It changes nothing. */
 static inline kaffe_answer kaffe_ask(kaffe_host *h, uint32_t question, uint32_t pid, uint32_t at) {
     return kaffe_request_call(h, question, pid, at, 0, (uint8_t)(at < 16 ? at : 255), 0, 0);
 }
@@ -292,21 +291,21 @@ static inline uint64_t kaffe_kernel_bytes(kaffe_host *h) { return kaffe_ask(h, K
 
 /* An event: a call that was done, with what came of it, or the end of a collection. */
 typedef struct kaffe_event {
-    uint32_t number;     /* from 0 in the order of the journal */
+    uint64_t number;     /* from 0 in the order of the journal */
     kaffe_request asked; /* the request for it: call is one of enum kaffe_call_number or of enum kaffe_event_number */
     kaffe_answer came;   /* what it was answered: for a collection nothing, and for its end what it freed */
 } kaffe_event;
 
 /* Reads the event of that number. Answers 1, or 0 where there is none yet or where it is older than the last that are kept. Constant time. */
-static inline int kaffe_event_at(kaffe_host *h, uint32_t number, kaffe_event *event) {
-    kaffe_answer asked = kaffe_ask(h, KAFFE_ASK_EVENT, 0, number);
+static inline int kaffe_event_at(kaffe_host *h, uint64_t number, kaffe_event *event) {
+    kaffe_answer asked = kaffe_request_call(h, KAFFE_ASK_EVENT, 0, 0, 0, 0, 0, number);
     if (asked.status) return 0;
     uint32_t call = asked.what - KAFFE_ASKED, to = call == KAFFE_CALL_SNEW ? (uint32_t)asked.number : 0;
     kaffe_request q = {call, asked.at, asked.seg, to, (uint8_t)(asked.serial % 256), (uint8_t)(asked.serial / 256), 0, 0, 0,
                        call == KAFFE_CALL_SNEW ? 0 : asked.number};
     event->number = number;
     event->asked = q;
-    event->came = kaffe_ask(h, KAFFE_ASK_CAME, 0, number);
+    event->came = kaffe_request_call(h, KAFFE_ASK_CAME, 0, 0, 0, 0, 0, number);
     return 1;
 }
 
@@ -315,7 +314,7 @@ static inline int kaffe_event_at(kaffe_host *h, uint32_t number, kaffe_event *ev
    its heap comes to the journal later, with its next event that does not stay there. Constant time. */
 static inline int kaffe_take(kaffe_host *h, kaffe_event *event) {
     kaffe_answer a = kaffe_request_call(h, KAFFE_CALL_TAKE, 0, 0, 0, 0, 0, 0);
-    return a.status == KAFFE_OK && a.what == KAFFE_NUMBER && kaffe_event_at(h, (uint32_t)a.number, event);
+    return a.status == KAFFE_OK && a.what == KAFFE_NUMBER && kaffe_event_at(h, a.number, event);
 }
 
 /* A host in memory of malloc, of what the text declares, with these rooms. Each process has a supply of that many bodies of the type: as many
@@ -347,7 +346,7 @@ static inline uint32_t kaffe_lines(const char *text, const char *word) {
     return count;
 }
 
-/* The same with rooms for so many living objects in each heap, as kaffe_rooms_for gives them: 2^30 - 1 events, of which none is kept, and as
+/* The same with rooms for so many living objects in each heap, as kaffe_rooms_for gives them: 2^55 - 1 events, of which none is kept, and as
    many references as there can be objects. */
 static inline kaffe_host *kaffe_make(const char *text, uint32_t type, uint32_t bodies, uint32_t objects, kaffe_answer *why) {
     kaffe_rooms rooms = kaffe_rooms_for(objects, kaffe_lines(text, "proc"), kaffe_lines(text, "shared"));

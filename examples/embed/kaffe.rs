@@ -37,8 +37,8 @@ struct Request {
 #[repr(C)]
 #[derive(Clone, Copy, Debug, PartialEq, Eq)]
 pub struct Rooms {
-    /// Events in the host's whole life: below 2^30, and at least three for each process, one for each shared heap and three.
-    pub events: u32,
+    /// Events in the host's whole life: below 2^55, and at least three for each process, one for each shared heap and three.
+    pub events: u64,
     /// The last of them, which can be read and taken out: at most `events`.
     pub kept: u32,
     /// Events inside its heap that a process has before they come to the others: at least 1.
@@ -56,7 +56,7 @@ pub struct Rooms {
 }
 
 impl Rooms {
-    /// Rooms for so many living objects in each heap of so many processes and shared heaps: 2^30 - 1 events, of which none is kept, and as
+    /// Rooms for so many living objects in each heap of so many processes and shared heaps: 2^55 - 1 events, of which none is kept, and as
     /// many references as there can be objects.
     pub fn for_objects(objects: u32, processes: u32, heaps: u32) -> Rooms {
         // SAFETY: `kaffe_rooms_for` asks nothing.
@@ -324,9 +324,9 @@ impl Host {
     }
 
     /// The event of that number, from 0. `None` where there is none yet, or where it is older than the last that are kept.
-    pub fn event(&mut self, at: u32) -> Option<Event> {
-        let asked = self.send(Request { call: call::EVENT, at, ..Request::default() });
-        let came = self.send(Request { call: call::CAME, at, ..Request::default() });
+    pub fn event(&mut self, number: u64) -> Option<Event> {
+        let asked = self.send(Request { call: call::EVENT, number, ..Request::default() });
+        let came = self.send(Request { call: call::CAME, number, ..Request::default() });
         (asked.status == 0).then(|| asked_of(asked).map(|asked| Event { asked, came: came_of(came) })).flatten()
     }
 
@@ -335,7 +335,7 @@ impl Host {
     /// journal later, with its next event that does not stay there.
     pub fn take_event(&mut self) -> Option<Taken> {
         let answer = self.send(Request { call: call::TAKE, ..Request::default() });
-        let number = (answer.status == 0 && answer.what == 2).then_some(answer.number as u32)?;
+        let number = (answer.status == 0 && answer.what == 2).then_some(answer.number)?;
         self.event(number).map(|event| Taken { number, event })
     }
 

@@ -68,7 +68,7 @@ pub enum Lack {
     Ended,
     /// A collection of a heap that is touched is open. The methods leave none open.
     Phase,
-    /// The journal has no room for the event, or the process has done 2^32 - 1 operations.
+    /// The journal has no room for the event, or the process has done 2^64 - 1 operations.
     Full,
     /// Memory is wanting for the object, and the supply of the process has no body of its type.
     NoMemory,
@@ -258,7 +258,7 @@ pub struct Event {
 /// An event that was taken out, with its number from 0 in the order of the journal.
 #[derive(Clone, Copy, Debug, PartialEq, Eq)]
 pub struct Taken {
-    pub number: u32,
+    pub number: u64,
     pub event: Event,
 }
 

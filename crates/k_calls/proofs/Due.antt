@@ -1,6 +1,6 @@
 -- An operation that is due can be done with the cells that it touches, once the process has published, and all serves afterwards.
-use Rattle.std.proofs.Common.{◌≡◌, ℕ, ◌+◌, ◌*◌, ◌<◌, ◌≤◌, refl, sym, ap, ap₂, ◌∙◌, subst, List, [], ◌∷◌, ◌++◌, append_assoc, append-nil, length, arith, IsFalse, IsTrue}
-use Rattle.std.proofs.lemmas.Bool.{false≢true}
+use Rattle.std.proofs.Common.{◌≡◌, ℕ, ◌+◌, ◌*◌, ◌<◌, ◌≤◌, refl, sym, ap, ap₂, ◌∙◌, subst, List, [], ◌∷◌, ◌++◌, append_assoc, append-nil, inl, inr, length, arith, IsFalse, IsTrue}
+use Rattle.std.proofs.lemmas.Bool.{cases_Bool, false≢true}
 use Rattle.std.proofs.lemmas.List.{length-append}
 use Rattle.k_types.specs.declared.event.Event.{Event}
 use Rattle.k_types.specs.declared.event.Event.TheVariants.{Done}
@@ -14,10 +14,10 @@ use Rattle.k_types.specs.Agree.{BookValue, book_shown_by}
 use Rattle.k_types.specs.Cells.{BookPart, Cell, CellPart, cells_touched, part}
 use Rattle.k_types.specs.Effects.{step}
 use Rattle.k_types.specs.Names.{heap_eq}
-use Rattle.k_types.specs.Steps.{IsPossible, state_after}
+use Rattle.k_types.specs.Steps.{IsLegalHistory, IsPossible, state_after}
 use Rattle.k_types.specs.Trace.{process_count}
 use Rattle.k_base.specs.Distinct.{AreDistinctNames}
-use Rattle.k_bounds.specs.Counts.{is_store}
+use Rattle.k_bounds.specs.Counts.{is_allocation, is_store}
 use Rattle.k_squares.specs.Locals.{is_local_in}
 use Rattle.k_squares.specs.Touches.{other_cells_in}
 use Rattle.k_squares.proofs.Laws.{touched_cells_are_told}
@@ -43,15 +43,18 @@ use Rattle.k_operate.specs.k_commit.Stepped.{HasStepped}
 use Rattle.k_operate.specs.Own.{CanStepOwn}
 use Rattle.k_operate.specs.Operating.{CanStepWithKernel, CanStepWithShared}
 use Rattle.k_guests.specs.declared.guest.Guest.{Guest}
-use Rattle.k_calls.specs.Adding.{HasOwnRoom, HasSharedRoom}
+use Rattle.k_calls.specs.Adding.{HasCountLeft, HasOwnRoom, HasSharedRoom}
 use Rattle.k_calls.specs.Doing.{HasDoneAlone, HasDoneWithKernel, HasDoneWithShared, HasPublishedAll, IsDueWith, IsKernelReady, bodies_for}
-use Rattle.k_guests.specs.Serving.{Basis, BookServes, GuestServes, GuestServesWith, HasReserveAt, KernelServes, SharedServes}
+use Rattle.k_guests.specs.Serving.{Basis, BookServes, GuestServes, GuestServesWith, HasFewObjectsIn, HasReserveAt, KernelServes, SharedServes}
 use Rattle.k_guests.specs.Reserve.{kept_for}
 use Rattle.k_guests.proofs.Reserve.{published_kept}
 use Rattle.k_guests.proofs.ReserveShown.{kernel_shown}
 use Rattle.k_calls.proofs.Going.{book_goes_on, guest_goes_on, kernel_goes_on, shared_goes_on, stands_where_made}
 use Rattle.k_calls.proofs.Reserved.{operation_kept}
-use Rattle.k_calls.proofs.TestedRooms.{bodies_left, event_left, kernel_item, kernel_tables, own_tables, shared_tables}
+use Rattle.k_book.specs.Objects.{made_by, objects_after}
+use Rattle.k_book.proofs.Counted.{made_low}
+use Rattle.k_guests.proofs.Objects.{appended_counts, makes_none, objects_are_told, published_counts}
+use Rattle.k_calls.proofs.Rooms.{bodies_left, event_left, kernel_counted, kernel_item, kernel_tables, own_counted, own_tables, shared_counted, shared_tables}
 
 -- publishing
 module _ (basis : Basis) {bodies : List BodyValue} (g : Guest) (b : BookRecord) (guest : GuestServesWith basis b.journal.table bodies g) (book : BookServes basis b) where
@@ -71,11 +74,21 @@ module _ (basis : Basis) {bodies : List BodyValue} (g : Guest) (b : BookRecord) 
         s.agrees s.table (ap (λ (x : HeapRecord). x.bodies) s.cell_is ∙ guest.stock)
         (λ lives. subst (λ (x : HeapRecord). IsFalse (Rattle.k_heap.specs.Heaps.has_ended_in x.value.process)) s.cell_is lives)
 
+    -- what is published makes and frees nothing
+    pub published_same : objects_after basis.trace l.journal.list ≡ objects_after basis.trace b.journal.list
+    published_same =
+        ap (objects_after basis.trace) s.journal
+        ∙ published_counts basis.trace b.journal.list g.cell.pid g.cell.note g.cell.value guest.agrees (subst (IsLegalHistory basis.trace) s.journal s.book_agrees.legal)
+
+    few_published : HasFewObjectsIn basis l
+    few_published = let same = published_same in let few = book.few in omega (arith, same, few)
+
     pub book_published : BookServes basis l
     book_published =
         book_goes_on basis b l book (s.book_is ∙ ap (λ (x : BookRecord). record b { journal = l.journal; value = x.value }) (sym s.book_is)) s.book_agrees
         (subst (λ events. HasReserveAt basis (state_after basis.trace events)) (sym s.journal)
         (published_kept basis.trace basis.rooms.exits basis.rooms.kernel_exits b.journal b.value g.cell.pid g.cell.note g.cell.value guest.agrees book.stands.agrees s.fits book.reserve))
+        few_published
 
     pub longer_published : length l.journal.list ≡ length b.journal.list + length g.cell.value.tail
     longer_published = ap length s.journal ∙ length-append b.journal.list g.cell.value.tail
@@ -228,15 +241,38 @@ module _ (basis : Basis) (g : Guest) (b : BookRecord) (op : Op) (cells : List Ce
           (operation_kept basis.trace basis.rooms.exits basis.rooms.kernel_exits (state_after basis.trace l.journal.list) book_now.reserve w.pid d.said cells few op due.ready.goes_on (touched_now d.said)
           (subst (IsPossible basis.trace (state_after basis.trace l.journal.list)) d.event_is d.possible) left)))
 
-      done_beside : HasReserveAt basis (state_after basis.trace m.journal.list) → HasDoneAlone basis op g (record g { cell = v }) b m event
-      done_beside reserve = record {
+      possible_so : IsPossible basis.trace (state_after basis.trace l.journal.list) (Done w.pid op d.said)
+      possible_so = subst (IsPossible basis.trace (state_after basis.trace l.journal.list)) d.event_is d.possible
+
+      then_is : objects_after basis.trace m.journal.list ≡ objects_after basis.trace (l.journal.list ++ event ∷ [])
+      then_is = ap (objects_after basis.trace) d.journal
+
+      -- an allocation makes one object at most, and no other operation any
+      few_then : (IsTrue (is_allocation op) → HasCountLeft b) → HasFewObjectsIn basis m
+      few_then counted =
+          let one = appended_counts basis.trace l.journal.list event d.possible in
+          elim (cases_Bool (is_allocation op)) [
+            | inl asks ↦
+                let left = counted asks in
+                let told = objects_are_told basis.trace b.journal.list due.book.stands.agrees.legal in
+                let same = published_same basis g b due.guest due.book w l s in
+                let low = made_low event in
+                omega (arith, one, then_is, left, told, same, low)
+            | inr none ↦
+                let makes = ap made_by d.event_is ∙ makes_none basis.trace (state_after basis.trace l.journal.list) w.pid.0 op d.said none possible_so.replied in
+                let few = book_now.few in
+                omega (arith, one, then_is, makes, few)
+          ]
+
+      done_beside : HasReserveAt basis (state_after basis.trace m.journal.list) → HasFewObjectsIn basis m → HasDoneAlone basis op g (record g { cell = v }) b m event
+      done_beside reserve few = record {
         guest =
             guest_goes_on basis l.journal.table m.journal.table (record g { cell = w }) v g.bodies guest_now
             (d.cell_is ∙ ap (λ (x : HeapRecord). record w { note = v.note; value = v.value; bodies = x.bodies }) (sym d.cell_is))
             d.agrees d.table
             (ap (λ (x : HeapRecord). x.bodies) d.cell_is ∙ ap (bodies_after op) guest_now.stock ∙ bodies_left basis g.bodies op)
             (λ lives. lives_now);
-        book = book_goes_on basis l m book_now d.book_is d.book_agrees reserve;
+        book = book_goes_on basis l m book_now d.book_is d.book_agrees reserve few;
         same_table = d.same_table ∙ s.same_table;
         pid = ap (λ (x : HeapRecord). x.pid) d.cell_is ∙ ap (λ (x : HeapRecord). x.pid) s.cell_is;
         said = d.said;
@@ -250,32 +286,35 @@ module _ (basis : Basis) (g : Guest) (b : BookRecord) (op : Op) (cells : List Ce
         bodies = refl;
       }
 
-      pub done_alone : cells ≡ [] → HasDoneAlone basis op g (record g { cell = v }) b m event
-      done_alone none =
+      pub done_alone : cells ≡ [] → HasOwnRoom basis g b op → HasDoneAlone basis op g (record g { cell = v }) b m event
+      done_alone none room =
           let many = ap length none in
           done_beside (reserve (omega (arith, many)) (λ touched store. absurd (false≢true (sym (ap (list_any (λ c. heap_eq c Kernel)) none) ∙ touched))))
+          (few_then (own_counted basis b l book_now same_value w.bodies g.bodies (idle_part w.value) w.pid.0 g op (touches_now ∙ none) room))
 
-      done_apart : (id : SharedId) → cells ≡ Shared id ∷ [] → HasDoneAlone basis op g (record g { cell = v }) b m event
-      done_apart id one =
+      done_apart : (id : SharedId) → cells ≡ Shared id ∷ [] → (IsTrue (is_allocation op) → HasCountLeft b) → HasDoneAlone basis op g (record g { cell = v }) b m event
+      done_apart id one counted =
           let many = ap length one in
           done_beside (reserve (omega (arith, many)) (λ touched store. absurd (false≢true (sym (ap (list_any (λ c. heap_eq c Kernel)) one) ∙ touched))))
+          (few_then counted)
 
-      done_kernel : cells ≡ Kernel ∷ [] → (IsTrue (is_store op) → kept_now < basis.rooms.kernel_exits) → HasDoneAlone basis op g (record g { cell = v }) b m event
-      done_kernel one left = let many = ap length one in done_beside (reserve (omega (arith, many)) (λ touched. left))
+      done_kernel : cells ≡ Kernel ∷ [] → (IsTrue (is_store op) → kept_now < basis.rooms.kernel_exits) → (IsTrue (is_allocation op) → HasCountLeft b) → HasDoneAlone basis op g (record g { cell = v }) b m event
+      done_kernel one left counted = let many = ap length one in done_beside (reserve (omega (arith, many)) (λ touched. left)) (few_then counted)
 
     pub done_with_kernel : (v : HeapRecord) (m : BookRecord) (event : Event) (k x : HoldingsValue) → KernelServes basis b.journal.table k → IsKernelReady basis k b op → AreDistinctNames k.value.exits → cells ≡ Kernel ∷ [] →
         HasSteppedWithKernel basis.trace op w v k x l m event →
         HasDoneWithKernel basis op g (record g { cell = v }) x b m event
     done_with_kernel v m event k x kernel ready distinct one d = record {
-      own = done_kernel v m event d.beside.own one (kernel_left k kernel ready d.fits distinct);
+      own = done_kernel v m event d.beside.own one (kernel_left k kernel ready d.fits distinct)
+          (kernel_counted basis b l book_now same_value w.bodies g.bodies (idle_part w.value) w.pid.0 k op (touches_now ∙ one) ready.room);
       kernel = kernel_goes_on basis b.journal.table m.journal.table k x kernel (ap held_by d.other_is) d.beside.others.0.stands.agrees d.beside.others.0.stands.table;
       idle = d.beside.others.0.stands.idle;
     }
 
-    pub done_with_shared : (v : HeapRecord) (m : BookRecord) (event : Event) (t x : SharedRecord) → SharedServes basis b.journal.table t → cells ≡ Shared t.id ∷ [] → HasSteppedWithShared basis.trace op w v t x l m event →
+    pub done_with_shared : (v : HeapRecord) (m : BookRecord) (event : Event) (t x : SharedRecord) → SharedServes basis b.journal.table t → HasSharedRoom basis t b op → cells ≡ Shared t.id ∷ [] → HasSteppedWithShared basis.trace op w v t x l m event →
         HasDoneWithShared basis op g (record g { cell = v }) t x b m event
-    done_with_shared v m event t x shared one d = record {
-      own = done_apart v m event d.beside.own t.id one;
+    done_with_shared v m event t x shared room one d = record {
+      own = done_apart v m event d.beside.own t.id one (shared_counted basis b l book_now same_value w.bodies g.bodies (idle_part w.value) w.pid.0 t t.id op (touches_now ∙ one) room);
       shared =
           shared_goes_on basis b.journal.table m.journal.table t x (d.fits.prefix.0 ++ event ∷ []) shared d.beside.others.0.stands.agrees (ap shared_by d.other_is)
           (sym (append_assoc t.note.list d.fits.prefix.0 (event ∷ [])) ∙ ap (λ events. events ++ event ∷ []) d.fits.prefix.1 ∙ sym d.beside.own.journal ∙ sym d.beside.others.0.met.list)

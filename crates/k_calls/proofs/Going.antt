@@ -23,7 +23,7 @@ use Rattle.k_guests.proofs.CanDo.{owner_shown}
 use Rattle.k_guests.proofs.Kept.{absorbed_stays}
 use Rattle.k_guests.specs.Keeping.{is_absorbed_in}
 use Rattle.k_guests.specs.declared.guest.Guest.{Guest}
-use Rattle.k_guests.specs.Serving.{Basis, BookServes, GuestServesWith, HasReserveAt, HasSegment, KernelServes, SharedServes}
+use Rattle.k_guests.specs.Serving.{Basis, BookServes, GuestServesWith, HasFewObjectsIn, HasReserveAt, HasSegment, KernelServes, SharedServes}
 
 module _ (basis : Basis) where
   -- a process whose cell has changed note, value and bodies
@@ -54,8 +54,8 @@ module _ (basis : Basis) where
 
   -- the book that has changed journal and value
   pub book_goes_on : (b l : BookRecord) → BookServes basis b → l ≡ record b { journal = l.journal; value = l.value } → BookAgrees basis.trace l.journal l.value → HasReserveAt basis (state_after basis.trace l.journal.list) →
-      BookServes basis l
-  book_goes_on b l serves is agrees reserve = record {
+      HasFewObjectsIn basis l → BookServes basis l
+  book_goes_on b l serves is agrees reserve few = record {
     stands = record {
       keeps = serves.stands.keeps;
       of_trace = record {
@@ -68,6 +68,7 @@ module _ (basis : Basis) where
       pins = subst (λ (x : BookRecord). pin_room_of (process_count basis.trace) ≤ x.pin_room) (sym is) serves.stands.pins;
     };
     events = ap (λ (x : BookRecord). x.event_room) is ∙ serves.events;
+    few = few;
     kept = ap (λ (x : BookRecord). x.kept) is ∙ serves.kept;
     entries = ap (λ (x : BookRecord). x.entry_room) is ∙ serves.entries;
     reserve = reserve;

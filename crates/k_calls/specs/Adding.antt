@@ -1,8 +1,9 @@
 -- Room in the tables of a heap and of the book for what an operation adds to the heap: an object, or an exit item.
-use Rattle.std.specs.Prelude.{ℕ, ◌+◌, ◌*◌, ◌<◌, IsFalse, length, if◌then◌else◌}
+use Rattle.std.specs.Prelude.{ℕ, ◌+◌, ◌-◌, ◌*◌, ◌<◌, ◌^◌, IsFalse, length, if◌then◌else◌}
 use Rattle.k_types.specs.declared.op.Op.{Op}
 use Rattle.k_types.specs.declared.op.Op.TheVariants.{New, KNew, SNew, Store}
 use Rattle.k_book.specs.Books.{BookRecord}
+use Rattle.k_book.specs.Objects.{objects_told}
 use Rattle.k_bounds.specs.Counts.{is_allocation}
 use Rattle.k_cell.specs.Holdings.{HasObjectRoom, HoldingsValue}
 use Rattle.k_heap.specs.Heaps.{holdings_of as heap_holdings, own_segment}
@@ -28,21 +29,35 @@ pub record HasKernelItemLeft (basis : Basis) (k : HoldingsValue) (b : BookRecord
   pub exits : length k.value.exits + basis.rooms.exits * living_of b.value.ended (length b.procs) < basis.rooms.kernel_exits
   pub entries : HasEntryRoom basis b
 
+-- 32 bits count one object more beside those that there are by the events of the journal
+abbrev pub HasCountLeft : BookRecord → Type 0
+HasCountLeft b = objects_told b.journal.list < 2 ^ 32 - 1
+
+-- the segment of the heap has room for one object more, and it can be counted
+pub record HasObjectLeft (heap : HoldingsValue) (seg : ℕ) (b : BookRecord) : Type 0 where
+  pub room : HasObjectRoom heap seg
+  pub counted : HasCountLeft b
+
+-- the same of a shared heap, where it is not absorbed
+pub record HasSharedObjectLeft (s : SharedRecord) (b : BookRecord) : Type 0 where
+  pub room : IsFalse (is_absorbed_in s.value.phase) → HasObjectRoom (shared_holdings s) s.seg.0
+  pub counted : HasCountLeft b
+
 -- the process's heap has room for what an operation adds that touches its cell alone
 abbrev pub HasOwnRoom : Basis → Guest → BookRecord → Op → Type 0
-HasOwnRoom basis g b (New r ty) = HasObjectRoom (heap_holdings g.cell) (own_segment g.cell.pid)
+HasOwnRoom basis g b (New r ty) = HasObjectLeft (heap_holdings g.cell) (own_segment g.cell.pid) b
 HasOwnRoom basis g b (Store base i value) = HasItemLeft basis (length g.cell.value.exits) b
 HasOwnRoom basis g b _ = Unit {0}
 
 -- the kernel's heap has room for what an operation adds that touches its cell
 abbrev pub HasKernelRoom : Basis → HoldingsValue → BookRecord → Op → Type 0
-HasKernelRoom basis k b (KNew r ty) = HasObjectRoom k 0
+HasKernelRoom basis k b (KNew r ty) = HasObjectLeft k 0 b
 HasKernelRoom basis k b (Store base i value) = HasKernelItemLeft basis k b
 HasKernelRoom basis k b _ = Unit {0}
 
 -- the shared heap has room for what an operation adds that touches its cell. One that is absorbed gets no object
 abbrev pub HasSharedRoom : Basis → SharedRecord → BookRecord → Op → Type 0
-HasSharedRoom basis s b (SNew r id ty) = IsFalse (is_absorbed_in s.value.phase) → HasObjectRoom (shared_holdings s) s.seg.0
+HasSharedRoom basis s b (SNew r id ty) = HasSharedObjectLeft s b
 HasSharedRoom basis s b (Store base i value) = HasItemLeft basis (length s.value.exits) b
 HasSharedRoom basis s b _ = Unit {0}
 

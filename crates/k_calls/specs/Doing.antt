@@ -70,7 +70,7 @@ pub record IsAwake (g : Guest) : Type 0 where
 
 -- the process can do one operation more
 abbrev pub HasCountRoom : Guest → Type 0
-HasCountRoom g = done_in g.cell.value.process < 2 ^ 32 - 1
+HasCountRoom g = done_in g.cell.value.process < 2 ^ 64 - 1
 
 -- the journal has room for the unpublished events of the process, and for one more
 abbrev pub HasEventsLeft : Basis → Guest → BookRecord → Type 0

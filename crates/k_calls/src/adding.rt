@@ -1,7 +1,7 @@
 //! Whether there is room for what an operation adds to a heap, tested once it is known which cells it touches.
 ghost use Rattle.std.specs.Prelude.{◌≡◌, ◌↔◌, ◌*◌, IfErr, IsFalse, IsTrue, OnOk};
 ghost use Rattle.k_types.specs.Owners.{is_absorbed};
-ghost use Rattle.k_calls.specs.Adding.{HasEntryRoom, HasItemLeft, HasKernelItemLeft, HasKernelRoom, HasOwnRoom, HasSharedRoom, lacking};
+ghost use Rattle.k_calls.specs.Adding.{HasCountLeft, HasEntryRoom, HasItemLeft, HasKernelItemLeft, HasKernelRoom, HasOwnRoom, HasSharedRoom, lacking};
 ghost use Rattle.k_calls.specs.Doing.{IsKernelReady};
 ghost use Rattle.k_calls.specs.Refusals.{IsKernelNotReady, LacksRoom};
 ghost use Rattle.k_cell.specs.Holdings.{HasObjectRoom};
@@ -57,12 +57,19 @@ fn has_kernel_item_left(terms: &Terms, kernel: &KernelCell, book: &Book) -> bool
     kept < all && u64::from(kernel.exit_count()) < all - kept && has_entry_room(terms, book)
 }
 
+/// Whether one object more can be counted.
+fn has_count_left(book: &Book) -> bool
+    ensures { IsTrue result ↔ HasCountLeft book.now }
+{
+    book.objects() < u64::from(u32::MAX)
+}
+
 /// Whether the process's heap has room for what an operation adds that touches its cell alone.
 fn has_own_room(terms: &Terms, guest: &Guest, book: &Book, op: &Op) -> bool
     ensures { IsTrue result ↔ HasOwnRoom (basis_of terms.now) guest.now book.now op.now }
 {
     match *op {
-        Op::New { .. } => guest.cell.has_object_room(),
+        Op::New { .. } => guest.cell.has_object_room() && has_count_left(book),
         Op::Store { .. } => has_item_left(terms, guest.cell.exit_count(), book),
         _ => true,
     }
@@ -84,7 +91,7 @@ fn has_kernel_room(terms: &Terms, kernel: &KernelCell, book: &Book, op: &Op) -> 
     ensures { IsTrue result ↔ HasKernelRoom (basis_of terms.now) kernel.now book.now op.now }
 {
     match *op {
-        Op::KNew { .. } => kernel.has_object_room(),
+        Op::KNew { .. } => kernel.has_object_room() && has_count_left(book),
         Op::Store { .. } => has_kernel_item_left(terms, kernel, book),
         _ => true,
     }
@@ -131,7 +138,7 @@ fn has_shared_room(terms: &Terms, shared: &SharedCell, book: &Book, op: &Op) -> 
     ensures { IsTrue result ↔ HasSharedRoom (basis_of terms.now) shared.now book.now op.now }
 {
     match *op {
-        Op::SNew { .. } => has_shared_object_room(shared),
+        Op::SNew { .. } => has_shared_object_room(shared) && has_count_left(book),
         Op::Store { .. } => has_item_left(terms, shared.exit_count(), book),
         _ => true,
     }

@@ -104,14 +104,14 @@ pub fn awake(guest: &Guest) -> Result<(), HostError>
 pub fn has_events_left(terms: &Terms, guest: &Guest, book: &Book) -> bool
     ensures { IsTrue result ↔ HasEventsLeft (basis_of terms.now) guest.now book.now }
 {
-    u64::from(book.len()) + u64::from(guest.cell.tail_len()) < u64::from(terms.rooms.events)
+    book.len() + u64::from(guest.cell.tail_len()) < terms.rooms.events
 }
 
 /// Whether the journal has room for what the process has unpublished.
 pub(crate) fn has_room_to_publish(terms: &Terms, guest: &Guest, book: &Book) -> bool
     ensures { IsTrue result ↔ HasRoomToPublish (basis_of terms.now) guest.now book.now }
 {
-    u64::from(book.len()) + u64::from(guest.cell.tail_len()) <= u64::from(terms.rooms.events)
+    book.len() + u64::from(guest.cell.tail_len()) <= terms.rooms.events
 }
 
 /// Tells that the journal has room for what the process has unpublished and one event more.
@@ -129,7 +129,7 @@ pub fn room_left(terms: &Terms, guest: &Guest, book: &Book) -> Result<(), HostEr
 pub(crate) fn has_count_room(guest: &Guest) -> bool
     ensures { IsTrue result ↔ HasCountRoom guest.now }
 {
-    guest.cell.done() < u32::MAX
+    guest.cell.done() < u64::MAX
 }
 
 /// Whether the process can try the operation now.

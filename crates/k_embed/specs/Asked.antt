@@ -10,7 +10,7 @@ use Rattle.k_types.specs.declared.op.Op.TheVariants.{New, KNew, SNew, Store, Loa
 use Rattle.k_embed.specs.declared.doing.Whole.{Whole}
 use Rattle.k_embed.specs.declared.doing.Whole.TheVariants.{Absorb, Collect, CollectKernel, Kill}
 use Rattle.k_keeper.specs.k_guests.declared.rooms.Rooms.{Rooms as HostRooms}
-use Rattle.k_keeper.specs.k_guests.Enough.{greater, lesser, most_room}
+use Rattle.k_keeper.specs.k_guests.Enough.{greater, lesser, most_events, most_room}
 use Rattle.k_embed.specs.declared.messages.Request.{Request}
 use Rattle.k_embed.specs.declared.messages.Rooms.{Rooms}
 
@@ -85,7 +85,7 @@ rooms_of r = record {
 -- rooms for so many objects in each heap of so many processes and shared heaps: as many exit items as objects, as many events as there can
 -- be, and none of them kept
 pub record AreRoomsFor (each processes heaps : ℕ) (r : Rooms) : Type 0 where
-  pub events : r.events ≡ most_room
+  pub events : r.events ≡ most_events
   pub kept : r.kept ≡ 0
   pub tail : r.tail ≡ lesser (greater each 1) 1024
   pub objects : r.objects ≡ each

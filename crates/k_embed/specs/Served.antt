@@ -112,8 +112,8 @@ told_of k q =
     else if q.call == 43 then Some (of_number k.left)
     else if q.call == 44 then Some (of_number (length k.freed))
     else if q.call == 45 then Some (of_listed (slice_get k.freed q.at))
-    else if q.call == 46 then Some (of_seen asked_of (event_of k.host q.at))
-    else if q.call == 47 then Some (of_seen of_event (event_of k.host q.at))
+    else if q.call == 46 then Some (of_seen asked_of (event_of k.host q.number))
+    else if q.call == 47 then Some (of_seen of_event (event_of k.host q.number))
     else None
 
 -- the next event is taken out, and the answer is its number; or there is none, with nothing to tell

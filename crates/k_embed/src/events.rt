@@ -88,7 +88,7 @@ fn asked_of(event: Event) -> Answer
 }
 
 /// What the event of that number was asked for, where it can be read.
-pub(crate) fn event_asked(host: &Host, number: u32) -> Answer
+pub(crate) fn event_asked(host: &Host, number: u64) -> Answer
     ensures { result ≡ of_seen asked_of (event_of host.now number) }
 {
     match host.event(number) {
@@ -98,7 +98,7 @@ pub(crate) fn event_asked(host: &Host, number: u32) -> Answer
 }
 
 /// What came of the event of that number, where it can be read.
-pub(crate) fn event_came(host: &Host, number: u32) -> Answer
+pub(crate) fn event_came(host: &Host, number: u64) -> Answer
     ensures { result ≡ of_seen of_event (event_of host.now number) }
 {
     match host.event(number) {
@@ -124,7 +124,7 @@ fn of_taken(came: Option<Taken>) -> Answer
                 number: at,
                 event: _,
             },
-        ) => number(u64::from(at)),
+        ) => number(at),
         None => done(),
     }
 }

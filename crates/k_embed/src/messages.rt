@@ -8,7 +8,7 @@ pub struct Request {
     pub call: u32,
     /// The process.
     pub pid: u32,
-    /// A field, a type, a limit, a shared heap, the process that is killed, or the number of an event.
+    /// A field, a type, a limit, a shared heap, or the process that is killed.
     pub at: u32,
     /// The type, where `at` is a shared heap.
     pub to: u32,
@@ -19,7 +19,7 @@ pub struct Request {
     pub unused0: u8,
     pub unused1: u8,
     pub unused2: u32,
-    /// What a field or a limit's maximum becomes.
+    /// What a field or a limit's maximum becomes, or the number of an event.
     pub number: u64,
 }
 
@@ -45,7 +45,7 @@ pub struct Answer {
 #[derive(Clone, Copy, Debug)]
 pub struct Rooms {
     /// Events in the host's whole life.
-    pub events: u32,
+    pub events: u64,
     /// The last of them, which can be read and taken out.
     pub kept: u32,
     /// Events of one process that are not published, at least 1.

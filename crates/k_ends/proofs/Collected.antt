@@ -1,5 +1,5 @@
 -- Collections, absorptions and ends of processes can be done by what serves, which serves afterwards.
-use Rattle.std.proofs.Common.{◌≡◌, ◌↔◌, ◌==◌, ℕ, ◌<◌, ◌≤◌, refl, sym, ap, ◌∙◌, subst, Bool, true, false, List, [], ◌∷◌, ◌++◌, length, get_or, arith, Option, Some, None, is_some, option_map, IsTrue, eqb-true}
+use Rattle.std.proofs.Common.{◌≡◌, ◌↔◌, ◌==◌, ◌^◌, ℕ, ◌<◌, ◌≤◌, refl, sym, ap, ◌∙◌, subst, Bool, true, false, List, [], ◌∷◌, ◌++◌, length, get_or, arith, Option, Some, None, is_some, option_map, IsTrue, eqb-true}
 use Rattle.std.proofs.lemmas.Bool.{eq-eqb, false≢true}
 use Rattle.std.proofs.lemmas.List.{get_or-set_other}
 use Rattle.k_types.specs.declared.event.Event.{Event}
@@ -13,10 +13,12 @@ use Rattle.k_types.specs.declared.names.Phase.{Phase}
 use Rattle.k_types.specs.declared.names.SharedId.{SharedId}
 use Rattle.k_types.specs.Agree.{CellValue}
 use Rattle.k_types.specs.Numbers.{numbers_below}
-use Rattle.k_types.specs.State.{Sharing}
+use Rattle.k_types.specs.State.{Sharing, opening}
 use Rattle.k_types.specs.Steps.{IsLegalHistory, IsPossible, state_after}
 use Rattle.k_types.specs.Trace.{segment_count, segment_of}
+use Rattle.k_frame.proofs.Histories.{legal_front}
 use Rattle.k_book.specs.Books.{BookRecord}
+use Rattle.k_book.specs.Objects.{made_by, objects_after}
 use Rattle.k_cell.specs.Holdings.{HoldingsValue}
 use Rattle.k_heap.specs.Heaps.{HeapRecord, has_ended_in, own_segment}
 use Rattle.k_shared.specs.SharedHeaps.{SharedRecord}
@@ -35,13 +37,13 @@ use Rattle.k_calls.specs.declared.errors.HostError.TheVariants.{Orphan}
 use Rattle.k_calls.specs.Refusals.{Lacks}
 use Rattle.k_calls.proofs.Lists.{found_passes}
 use Rattle.k_base.specs.Distinct.{AreDistinctNames}
-use Rattle.k_ends.proofs.Handed.{book_appended, ends_take_none, exits_fit, kept_published, lives_now, own_few}
+use Rattle.k_ends.proofs.Handed.{book_appended, ends_make_none, ends_take_none, exits_fit, few_published, kept_published, lives_now, own_few}
 use Rattle.k_ends.specs.Collecting.{CanAbsorbNow, CanBeginKernel, CanExitNow, CanGoOn, CanMarkGuest, CanMarkKernel, HasAbsorbedNow, HasBegun, HasBegunKernel, HasEnded, HasExitedNow, HasGoneOn, HasMarkedGuest, HasMarkedKernel, HasSettled, HasSettledKernel, KernelHasEnded}
 use Rattle.k_calls.specs.k_guests.Serving.{Basis, BookServes, GuestServes, HasReserveAt, HasSegment, KernelServes}
 use Rattle.k_calls.specs.k_guests.Reserve.{Spares}
 use Rattle.k_calls.proofs.Due.{book_published, can_publish, guest_published, longer_published}
 use Rattle.k_calls.proofs.Going.{book_goes_on, guest_goes_on, kernel_goes_on}
-use Rattle.k_calls.proofs.TestedRooms.{event_left}
+use Rattle.k_calls.proofs.Rooms.{event_left, few_of, few_of_kernel}
 
 -- the end of what is open is one event at most
 one_end : (phase : CellPhase) → ends_to_come phase ≤ 1
@@ -60,6 +62,7 @@ module _ (basis : Basis) (g : Guest) (b : BookRecord) (can : CanGoOn basis g b) 
     agrees = can.guest.agrees;
     table = can.guest.table;
     room = λ fits. let room = can.room in let all = can.book.events in let one = one_end g.cell.value.collection in omega (arith, room, all, one);
+    few = few_of basis b can.book g.cell.pid g.cell.note g.cell.value can.guest.agrees;
   }
 
   pub settled : (w : HeapRecord) (l : BookRecord) → HasSettledHeap basis.trace g.cell w b l → HasSettled basis g (record g { cell = w }) b l
@@ -73,7 +76,11 @@ module _ (basis : Basis) (g : Guest) (b : BookRecord) (can : CanGoOn basis g b) 
           book_goes_on basis b l can.book s.book_is s.agrees
           (subst (λ history. HasReserveAt basis (state_after basis.trace history)) (sym s.journal)
           (ends_take_none basis (User g.cell.pid) (b.journal.list ++ g.cell.value.tail) s.last (subst (IsLegalHistory basis.trace) s.journal s.agrees.legal)
-          (kept_published basis b can.book g.cell can.guest.agrees s.fits) g.cell.value.collection s.ends));
+          (kept_published basis b can.book g.cell can.guest.agrees s.fits) g.cell.value.collection s.ends))
+          (subst (λ history. objects_after basis.trace history < 2 ^ 32) (sym s.journal)
+          (ends_make_none basis (User g.cell.pid) (b.journal.list ++ g.cell.value.tail) s.last (subst (IsLegalHistory basis.trace) s.journal s.agrees.legal)
+          (few_published basis b can.book g.cell can.guest.agrees (legal_front basis.trace (opening basis.trace) (b.journal.list ++ g.cell.value.tail) s.last (subst (IsLegalHistory basis.trace) s.journal s.agrees.legal)))
+          g.cell.value.collection s.ends));
       same_table = s.same_table;
       pid = ap (λ (x : HeapRecord). x.pid) s.heap_goes_on.cell_is;
       bodies = refl;
@@ -117,6 +124,7 @@ module _ (basis : Basis) (g : Guest) (b : BookRecord) (can : CanGoOn basis g b) 
         in_phase = ap (λ (c : HeapRecord). c.value.collection) s.cell_is ∙ is_marked;
       };
       room = λ fits. event_left basis l l book_now refl left_now;
+      few = few_of basis l book_now w.pid w.note w.value guest_now.agrees;
     }
 
     pub can_begin_kernel : (k : HoldingsValue) → CanBeginKernel basis g k b → CanBeginKernelStep basis.trace w k l
@@ -162,8 +170,8 @@ module _ (basis : Basis) (g : Guest) (b : BookRecord) (can : CanGoOn basis g b) 
       settled = settled;
     }
 
-    book_after : (m : BookRecord) (event : Event) → HasAppended basis.trace l m event → Spares basis.trace basis.rooms.exits basis.rooms.kernel_exits (state_after basis.trace l.journal.list) event → BookServes basis m
-    book_after m event a spares = book_appended basis l book_now m event a.book_is a.agrees a.journal a.possible spares
+    book_after : (m : BookRecord) (event : Event) → HasAppended basis.trace l m event → Spares basis.trace basis.rooms.exits basis.rooms.kernel_exits (state_after basis.trace l.journal.list) event → made_by event ≡ 0 → BookServes basis m
+    book_after m event a spares none = book_appended basis l book_now m event a.book_is a.agrees a.journal a.possible spares none
 
     guest_after : (v : HeapRecord) (m : BookRecord) (phase : CellPhase) → Rattle.k_calls.specs.k_collect.Begun.HeapGoesOn basis.trace w v m phase → GuestServes basis m.journal.table (record g { cell = v })
     guest_after v m phase h =
@@ -175,7 +183,7 @@ module _ (basis : Basis) (g : Guest) (b : BookRecord) (can : CanGoOn basis g b) 
     pub begun : (v : HeapRecord) (m : BookRecord) (event : Event) → HasBegunHeap basis.trace w v l m event → HasBegun basis g (record g { cell = v }) b m event
     begun v m event d = record {
       goes_on =
-          went_on v m event (guest_after v m Begun d.heap_goes_on) (book_after m event d.appended (subst (λ (e : Event). Spares basis.trace basis.rooms.exits basis.rooms.kernel_exits (state_after basis.trace l.journal.list) e) (sym d.event_is) tt)) d.appended.same_table
+          went_on v m event (guest_after v m Begun d.heap_goes_on) (book_after m event d.appended (subst (λ (e : Event). Spares basis.trace basis.rooms.exits basis.rooms.kernel_exits (state_after basis.trace l.journal.list) e) (sym d.event_is) tt) (ap made_by d.event_is)) d.appended.same_table
           (ap (λ (x : HeapRecord). x.pid) d.heap_goes_on.cell_is) d.appended.journal d.appended.possible d.heap_goes_on.settled;
       event_is = d.event_is ∙ ap (λ (x : HeapRecord). Done x.pid Collect DoneReply) s.cell_is;
       phase = d.heap_goes_on.in_phase;
@@ -184,7 +192,7 @@ module _ (basis : Basis) (g : Guest) (b : BookRecord) (can : CanGoOn basis g b) 
     pub ended : (v : HeapRecord) (m : BookRecord) (event : Event) → HasEndedHeap basis.trace w v l m event → HasEnded basis g (record g { cell = v }) b m event
     ended v m event d = record {
       goes_on =
-          went_on v m event (guest_after v m Idle d.heap_goes_on) (book_after m event d.appended (subst (λ (e : Event). Spares basis.trace basis.rooms.exits basis.rooms.kernel_exits (state_after basis.trace l.journal.list) e) (sym d.event_is) tt)) d.appended.same_table
+          went_on v m event (guest_after v m Idle d.heap_goes_on) (book_after m event d.appended (subst (λ (e : Event). Spares basis.trace basis.rooms.exits basis.rooms.kernel_exits (state_after basis.trace l.journal.list) e) (sym d.event_is) tt) (ap made_by d.event_is)) d.appended.same_table
           (ap (λ (x : HeapRecord). x.pid) d.heap_goes_on.cell_is) d.appended.journal d.appended.possible d.heap_goes_on.settled;
       is_end = record {
         objects = d.objects;
@@ -200,7 +208,7 @@ module _ (basis : Basis) (g : Guest) (b : BookRecord) (can : CanGoOn basis g b) 
         HasBegunKernel basis g (record g { cell = v }) x b m event
     begun_kernel v k x m event kernel d = record {
       goes_on =
-          went_on v m event (guest_after v m Idle d.heap_goes_on) (book_after m event d.appended (subst (λ (e : Event). Spares basis.trace basis.rooms.exits basis.rooms.kernel_exits (state_after basis.trace l.journal.list) e) (sym d.event_is) tt)) d.appended.same_table
+          went_on v m event (guest_after v m Idle d.heap_goes_on) (book_after m event d.appended (subst (λ (e : Event). Spares basis.trace basis.rooms.exits basis.rooms.kernel_exits (state_after basis.trace l.journal.list) e) (sym d.event_is) tt) (ap made_by d.event_is)) d.appended.same_table
           (ap (λ (y : HeapRecord). y.pid) d.heap_goes_on.cell_is) d.appended.journal d.appended.possible d.heap_goes_on.settled;
       event_is = d.event_is ∙ ap (λ (y : HeapRecord). Done y.pid KCollect DoneReply) s.cell_is;
       kernel = kernel_goes_on basis b.journal.table m.journal.table k x kernel d.kernel_goes_on.kernel_is d.kernel_goes_on.agrees d.kernel_goes_on.table;
@@ -225,7 +233,8 @@ module _ (basis : Basis) (g : Guest) (b : BookRecord) (can : CanGoOn basis g b) 
           })
           (book_appended basis l book_now m event d.book_is d.book_agrees d.journal d.possible
           (subst (λ (e : Event). Spares basis.trace basis.rooms.exits basis.rooms.kernel_exits (state_after basis.trace l.journal.list) e) (sym d.event_is)
-          (own_few basis l book_now w guest_now.agrees (ap (λ (c : HeapRecord). c.value.tail) s.cell_is) d.ends.fits distinct few guest_now.exits)))
+          (own_few basis l book_now w guest_now.agrees (ap (λ (c : HeapRecord). c.value.tail) s.cell_is) d.ends.fits distinct few guest_now.exits))
+          (ap made_by d.event_is))
           d.same_table
           (ap (λ (y : HeapRecord). y.pid) d.ends.cell_is) d.journal d.possible d.ends.settled;
       event_is = d.event_is ∙ ap (λ (y : HeapRecord). Done y.pid Exit DoneReply) s.cell_is;
@@ -284,6 +293,7 @@ module _ (basis : Basis) (k : HoldingsValue) (b : BookRecord) (kernel : KernelSe
     agrees = kernel.agrees;
     table = kernel.table;
     room = λ fits. let all = book.events in let one = one_end k.value.collection in omega (arith, room, all, one);
+    few = few_of_kernel basis b book k.note k.value kernel.agrees;
   }
 
   pub settled_kernel : (x : HoldingsValue) (m : BookRecord) → HasSettledKernelStep basis.trace k x b m → HasSettledKernel basis k x b m
@@ -292,7 +302,9 @@ module _ (basis : Basis) (k : HoldingsValue) (b : BookRecord) (kernel : KernelSe
     book =
         book_goes_on basis b m book s.book_is s.agrees
         (subst (λ history. HasReserveAt basis (state_after basis.trace history)) (sym s.journal)
-        (ends_take_none basis Kernel b.journal.list s.last (subst (IsLegalHistory basis.trace) s.journal s.agrees.legal) book.reserve k.value.collection s.ends));
+        (ends_take_none basis Kernel b.journal.list s.last (subst (IsLegalHistory basis.trace) s.journal s.agrees.legal) book.reserve k.value.collection s.ends))
+        (subst (λ history. objects_after basis.trace history < 2 ^ 32) (sym s.journal)
+        (ends_make_none basis Kernel b.journal.list s.last (subst (IsLegalHistory basis.trace) s.journal s.agrees.legal) book.few k.value.collection s.ends));
     same_table = s.same_table;
     phase = s.kernel_goes_on.in_phase;
     last = s.last;
@@ -305,6 +317,7 @@ module _ (basis : Basis) (k : HoldingsValue) (b : BookRecord) (kernel : KernelSe
     book_stands = book.stands;
     collects = record { agrees = kernel.agrees; table = kernel.table; in_phase = is };
     room = λ fits. event_left basis b b book refl room;
+    few = few_of_kernel basis b book k.note k.value kernel.agrees;
   }
 
   pub ended_kernel : (x : HoldingsValue) (m : BookRecord) (event : Event) → HasEndedKernel basis.trace k x b m event → KernelHasEnded basis x b m event
@@ -313,7 +326,8 @@ module _ (basis : Basis) (k : HoldingsValue) (b : BookRecord) (kernel : KernelSe
       kernel = kernel_goes_on basis b.journal.table m.journal.table k x kernel d.kernel_goes_on.kernel_is d.kernel_goes_on.agrees d.kernel_goes_on.table;
       book =
           book_appended basis b book m event d.appended.book_is d.appended.agrees d.appended.journal d.appended.possible
-          (subst (λ (e : Event). Spares basis.trace basis.rooms.exits basis.rooms.kernel_exits (state_after basis.trace b.journal.list) e) (sym d.event_is) tt);
+          (subst (λ (e : Event). Spares basis.trace basis.rooms.exits basis.rooms.kernel_exits (state_after basis.trace b.journal.list) e) (sym d.event_is) tt)
+          (ap made_by d.event_is);
       same_table = d.appended.same_table;
       in_phase = d.kernel_goes_on.in_phase;
       journal = d.appended.journal;
@@ -350,7 +364,8 @@ module _ (basis : Basis) (s : SharedRecord) (k : HoldingsValue) (b : BookRecord)
         numbers = subst (λ (y : HoldingsValue). segment_count basis.trace ≤ y.bound) (sym d.kernel_is) can.own.kernel.numbers;
       };
       book = book_appended basis b can.own.book m event d.book_is d.book_agrees d.journal d.possible
-          (subst (λ (e : Event). Spares basis.trace basis.rooms.exits basis.rooms.kernel_exits (state_after basis.trace b.journal.list) e) (sym d.event_is) tt);
+          (subst (λ (e : Event). Spares basis.trace basis.rooms.exits basis.rooms.kernel_exits (state_after basis.trace b.journal.list) e) (sym d.event_is) tt)
+          (ap made_by d.event_is);
       same_table = d.same_table;
       in_phase = d.kernel_idle;
       journal = d.journal;

@@ -17,6 +17,7 @@ use Rattle.k_squares.specs.Touches.{ends_other_in, other_cells_in}
 use Rattle.k_moves.specs.Shown.{idle_part}
 use Rattle.k_moves.proofs.Killing.{ends_by, never_one}
 use Rattle.k_book.specs.Books.{BookRecord}
+use Rattle.k_book.specs.Objects.{made_by}
 use Rattle.k_cell.specs.Holdings.{HoldingsValue}
 use Rattle.k_heap.specs.Heaps.{HeapRecord, has_ended_in, own_segment}
 use Rattle.k_calls.specs.k_commit.Changed.{bodies_after}
@@ -165,6 +166,7 @@ module _ (basis : Basis) (g t : Guest) (k : HoldingsValue) (b : BookRecord) (op 
             book_appended basis m book_now e event d.own.book_is d.own.book_agrees d.own.journal d.own.possible
             (subst (λ (f : Event). Spares basis.trace basis.rooms.exits basis.rooms.kernel_exits (state_after basis.trace m.journal.list) f) (sym d.answered)
             (λ lives. own_few basis m book_now u target_now.agrees (ap (λ (c : HeapRecord). c.value.tail) r.cell_is) d.ends.fits distinct few target_now.exits))
+            (ap made_by d.answered)
 
         same_table : e.journal.table ≡ b.journal.table
         same_table = d.own.same_table ∙ r.same_table ∙ s.same_table

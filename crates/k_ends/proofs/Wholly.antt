@@ -28,7 +28,7 @@ use Rattle.k_calls.specs.k_guests.Objects.{gone_by, made_by, objects_after}
 use Rattle.k_calls.specs.k_guests.Reserve.{Spares}
 use Rattle.k_calls.proofs.Objects.{appended_counts, published_counts, settled_few}
 use Rattle.k_ends.proofs.Handed.{book_appended}
-use Rattle.k_calls.proofs.TestedRooms.{event_left}
+use Rattle.k_calls.proofs.Rooms.{event_left, few_of, few_of_kernel}
 use Rattle.k_ends.specs.Collecting.{CanBeginKernel, CanGoOn}
 use Rattle.k_ends.specs.Whole.{AreFreedLast, CanCollect, CanCollectKernel, HasCollected, HasCollectedKernel}
 
@@ -64,8 +64,8 @@ module _ (basis : Basis) (g : Guest) (b : BookRecord) (can : CanCollect basis g 
       let more : length m.journal.list ≡ length l.journal.list + 1 = ap length is ∙ length-append l.journal.list (first ∷ []) in
       omega (arith, room, longer, more)
 
-  book_then : (m : BookRecord) (event : Event) → HasAppended basis.trace l m event → Spares basis.trace basis.rooms.exits basis.rooms.kernel_exits (state_after basis.trace l.journal.list) event → BookServes basis m
-  book_then m event a spares = book_appended basis l (book_published basis g b can.guest can.book w l s) m event a.book_is a.agrees a.journal a.possible spares
+  book_then : (m : BookRecord) (event : Event) → HasAppended basis.trace l m event → Spares basis.trace basis.rooms.exits basis.rooms.kernel_exits (state_after basis.trace l.journal.list) event → made_by event ≡ 0 → BookServes basis m
+  book_then m event a spares none = book_appended basis l (book_published basis g b can.guest can.book w l s) m event a.book_is a.agrees a.journal a.possible spares none
 
   -- where the machine has no more objects than so many, no cell has more once the collection has begun
   few_then : (m : BookRecord) (first : Event) → HasAppended basis.trace l m first → made_by first ≡ 0 → gone_by first ≡ 0 → objects_after basis.trace m.journal.list ≡ objects_after basis.trace b.journal.list
@@ -90,7 +90,7 @@ module _ (basis : Basis) (g : Guest) (b : BookRecord) (can : CanCollect basis g 
     can_mark_then = record { keeps = can.guest.rules; agrees = d.heap_goes_on.agrees; begun = d.heap_goes_on.in_phase }
 
     book_begun : BookServes basis m
-    book_begun = book_then m first d.appended (subst (λ (e : Event). Spares basis.trace basis.rooms.exits basis.rooms.kernel_exits (state_after basis.trace l.journal.list) e) (sym d.event_is) tt)
+    book_begun = book_then m first d.appended (subst (λ (e : Event). Spares basis.trace basis.rooms.exits basis.rooms.kernel_exits (state_after basis.trace l.journal.list) e) (sym d.event_is) tt) (ap made_by d.event_is)
 
     begun_is : v ≡ record g.cell { note = v.note; value = v.value }
     begun_is = d.heap_goes_on.cell_is ∙ ap (λ (y : HeapRecord). record y { note = v.note; value = v.value }) s.cell_is
@@ -107,6 +107,7 @@ module _ (basis : Basis) (g : Guest) (b : BookRecord) (can : CanCollect basis g 
           in_phase = q.phase;
         };
         room = λ fits. event_left basis m m book_begun refl (left_behind m first d.appended.journal);
+        few = few_of basis m book_begun x.pid x.note x.value (subst (λ (y : HeapRecord). Agrees basis.trace (User y.pid) y.note x.value) (sym is) q.agrees);
       }
 
       -- the cell has no more objects than the machine had at first
@@ -130,7 +131,8 @@ module _ (basis : Basis) (g : Guest) (b : BookRecord) (can : CanCollect basis g 
             guest = guest_then z n ended_is e.heap_goes_on.agrees e.heap_goes_on.table;
             book =
                 book_appended basis m book_begun n event e.appended.book_is e.appended.agrees e.appended.journal e.appended.possible
-                (subst (λ (f : Event). Spares basis.trace basis.rooms.exits basis.rooms.kernel_exits (state_after basis.trace m.journal.list) f) (sym e.event_is) tt);
+                (subst (λ (f : Event). Spares basis.trace basis.rooms.exits basis.rooms.kernel_exits (state_after basis.trace m.journal.list) f) (sym e.event_is) tt)
+                (ap made_by e.event_is);
             same_table = e.appended.same_table ∙ d.appended.same_table ∙ s.same_table;
             pid = ap (λ (y : HeapRecord). y.pid) ended_is;
             bodies = refl;
@@ -156,7 +158,7 @@ module _ (basis : Basis) (g : Guest) (b : BookRecord) (can : CanCollect basis g 
     kernel_can_mark_then = record { keeps = kernel.rules; agrees = d.kernel_goes_on.agrees; begun = d.kernel_goes_on.in_phase }
 
     kernel_book_begun : BookServes basis m
-    kernel_book_begun = book_then m first d.appended (subst (λ (e : Event). Spares basis.trace basis.rooms.exits basis.rooms.kernel_exits (state_after basis.trace l.journal.list) e) (sym d.event_is) tt)
+    kernel_book_begun = book_then m first d.appended (subst (λ (e : Event). Spares basis.trace basis.rooms.exits basis.rooms.kernel_exits (state_after basis.trace l.journal.list) e) (sym d.event_is) tt) (ap made_by d.event_is)
 
     kernel_begun_is : v ≡ record g.cell { note = v.note; value = v.value }
     kernel_begun_is = d.heap_goes_on.cell_is ∙ ap (λ (y : HeapRecord). record y { note = v.note; value = v.value }) s.cell_is
@@ -171,6 +173,7 @@ module _ (basis : Basis) (g : Guest) (b : BookRecord) (can : CanCollect basis g 
           in_phase = q.phase;
         };
         room = λ fits. event_left basis m m kernel_book_begun refl (left_behind m first d.appended.journal);
+        few = few_of_kernel basis m kernel_book_begun y.note y.value (subst (λ (u : HoldingsValue). Agrees basis.trace Kernel u.note y.value) (sym is) q.agrees);
       }
 
       -- the cell has no more objects than the machine had at first
@@ -193,7 +196,8 @@ module _ (basis : Basis) (g : Guest) (b : BookRecord) (can : CanCollect basis g 
             guest = guest_then v n kernel_begun_is d.heap_goes_on.agrees (d.heap_goes_on.table ∙ sym e.appended.same_table);
             book =
                 book_appended basis m kernel_book_begun n event e.appended.book_is e.appended.agrees e.appended.journal e.appended.possible
-                (subst (λ (f : Event). Spares basis.trace basis.rooms.exits basis.rooms.kernel_exits (state_after basis.trace m.journal.list) f) (sym e.event_is) tt);
+                (subst (λ (f : Event). Spares basis.trace basis.rooms.exits basis.rooms.kernel_exits (state_after basis.trace m.journal.list) f) (sym e.event_is) tt)
+                (ap made_by e.event_is);
             same_table = e.appended.same_table ∙ d.appended.same_table ∙ s.same_table;
             pid = ap (λ (u : HeapRecord). u.pid) kernel_begun_is;
             bodies = refl;

@@ -16,8 +16,8 @@ use k_types::{Event, Op};
 fn has_room_to_kill(terms: &Terms, guest: &Guest, target: &Guest, book: &Book) -> bool
     ensures { IsTrue result ↔ HasRoomToKill (basis_of terms.now) guest.now target.now book.now }
 {
-    u64::from(book.len()) + u64::from(guest.cell.tail_len()) + u64::from(target.cell.tail_len())
-        < u64::from(terms.rooms.events)
+    book.len() + u64::from(guest.cell.tail_len()) + u64::from(target.cell.tail_len())
+        < terms.rooms.events
 }
 
 /// Whether the target can end now by an operation of the process.

@@ -17,7 +17,7 @@ use k_types::Event;
 fn has_room_to_collect(terms: &Terms, guest: &Guest, book: &Book) -> bool
     ensures { IsTrue result ↔ HasRoomToCollect (basis_of terms.now) guest.now book.now }
 {
-    u64::from(book.len()) + u64::from(guest.cell.tail_len()) + 2 <= u64::from(terms.rooms.events)
+    book.len() + u64::from(guest.cell.tail_len()) + 2 <= terms.rooms.events
 }
 
 /// Publishes, and collects the process's heap. The list then has the names of what that freed, and no others.

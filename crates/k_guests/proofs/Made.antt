@@ -15,6 +15,7 @@ use Rattle.k_base.proofs.Sums.{ones}
 use Rattle.k_tie.specs.Values.{JournalValue, NoteValue, blank_note, empty_journal}
 use Rattle.k_agree.proofs.Openings.{opened_cell}
 use Rattle.k_book.specs.Books.{BookRecord, opened}
+use Rattle.k_book.specs.Objects.{objects_after}
 use Rattle.k_book.proofs.Telling.{opened_agrees, opened_of}
 use Rattle.k_cell.specs.Holdings.{HoldingsValue}
 use Rattle.k_heap.specs.declared.heap.CellRooms.{CellRooms}
@@ -66,6 +67,10 @@ module _ (tie table : TableId) (same : table ≡ tie) (n procs heaps : ℕ) (cou
 -- where none has ended, all live
 all_live : (n : ℕ) → living_of [] n ≡ n
 all_live n = ones (numbers_below n) ∙ numbers_length 0 n
+
+-- the directory is there before the first event
+first_object : (trace : Trace) → objects_after trace [] ≡ 1
+first_object trace = refl
 
 module _ (terms : Terms) (can : CanMake terms) where
   abbrev trace : Trace
@@ -161,6 +166,7 @@ module _ (terms : Terms) (can : CanMake terms) where
             pins = omega arith;
           };
           events = refl;
+          few = omega (arith, first_object trace);
           kept = refl;
           entries = refl;
           reserve = reserve_at_first;

@@ -1,5 +1,5 @@
 -- How many objects the machine has after an event.
-use Rattle.std.proofs.Common.{◌≡◌, ℕ, suc, ◌+◌, ◌≤◌, true, false, cond, not, refl, sym, ap, ◌∙◌, subst, List, [], ◌∷◌, ◌++◌, length, Option, Some, None, arith, IsTrue, append-nil}
+use Rattle.std.proofs.Common.{◌≡◌, ◌⊎◌, inl, inr, ℕ, suc, ◌+◌, ◌-◌, ◌≤◌, true, false, cond, not, refl, sym, ap, ◌∙◌, subst, List, [], ◌∷◌, ◌++◌, length, Option, Some, None, arith, IsTrue, append-nil}
 use Rattle.std.proofs.lemmas.Bool.{false≢true}
 use Rattle.std.proofs.lemmas.List.Filters.{length-filter_both}
 use Rattle.k_types.specs.declared.event.Event.{Event}
@@ -29,7 +29,7 @@ use Rattle.k_frame.proofs.Histories.{legal_rest, run_append, state_next}
 use Rattle.k_frame.proofs.Rest.{freeze_rest, kill_rest}
 use Rattle.k_tie.specs.Values.{JournalValue, NoteValue}
 use Rattle.k_agree.specs.Agreement.{Agrees, Shows}
-use Rattle.k_guests.specs.Objects.{gone_by, made_by, made_by_reply, objects_after}
+use Rattle.k_book.specs.Objects.{gone_by, made_by, made_by_reply, objects_after, objects_from, objects_told}
 
 placed_length : (o : Object) (xs : List Object) → length (with_object o xs) ≡ length xs + 1
 placed_length o [] = refl
@@ -38,6 +38,18 @@ placed_length o (x ∷ xs) =
       | true ↦ omega (arith, placed_length o xs)
       | false ↦ omega arith
     ]
+
+pub made_or_gone : (event : Event) → (made_by event ≡ 0) ⊎ (gone_by event ≡ 0)
+made_or_gone (Done pid op said) = inr refl
+made_or_gone (Ended h objects bytes exits shares) = inl refl
+made_or_gone (Absorbed s) = inl refl
+made_or_gone Closing = inl refl
+
+by_counts : (before after gone made : ℕ) → after + gone ≡ before + made → (made ≡ 0) ⊎ (gone ≡ 0) → after ≡ (before - gone) + made
+by_counts before after gone made counts one = elim one [
+  | inl none ↦ omega (arith, counts, none)
+  | inr none ↦ omega (arith, counts, none)
+]
 
 module _ (trace : Trace) where
   new_counts : (st : State) (p r seg : ℕ) (ty : TypeId) → length (after_new trace p r seg ty st).objects ≡ length st.objects + 1
@@ -81,6 +93,16 @@ module _ (trace : Trace) where
       omega (arith, both, gone)
   event_counts st (Absorbed s) may = omega arith
   event_counts st Closing may = omega arith
+
+  -- so the events tell how many there are
+  told_from : (st : State) (events : List Event) → IsRun trace st events → length (run trace st events).objects ≡ objects_from (length st.objects) events
+  told_from st [] runs = refl
+  told_from st (event ∷ events) runs =
+      told_from (step trace st event) events runs.1
+      ∙ ap (λ n. objects_from n events) (by_counts (length st.objects) (length (step trace st event).objects) (gone_by event) (made_by event) (event_counts st event runs.0) (made_or_gone event))
+
+  pub objects_are_told : (history : List Event) → IsLegalHistory trace history → objects_after trace history ≡ objects_told history
+  objects_are_told history legal = told_from (opening trace) history legal
 
   pub appended_counts : (history : List Event) (event : Event) → IsPossible trace (state_after trace history) event → objects_after trace (history ++ event ∷ []) + gone_by event ≡ objects_after trace history + made_by event
   appended_counts history event may = ap (λ (st : State). length st.objects + gone_by event) (state_next trace history event) ∙ event_counts (state_after trace history) event may

@@ -9,6 +9,10 @@ lesser a b = if nat_lt a b then a else b
 abbrev pub greater : ℕ → ℕ → ℕ
 greater a b = if nat_lt a b then b else a
 
--- the most for which a host can be asked to have room
+-- the most events for which a host can be asked to have room
+abbrev pub most_events : ℕ
+most_events = 2 ^ 55 - 1
+
+-- the most of anything else for which a host can be asked to have room
 abbrev pub most_room : ℕ
 most_room = 2 ^ 30 - 1

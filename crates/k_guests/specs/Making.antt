@@ -20,9 +20,9 @@ use Rattle.k_guests.specs.declared.rooms.Rooms.{Rooms}
 use Rattle.k_guests.specs.declared.terms.Terms.{Terms}
 use Rattle.k_guests.specs.Serving.{BookServes, GuestServes, GuestsServe, RestServes, SharedServes, basis_of, open_trace}
 
--- each of the rooms is below 2^30
+-- there are fewer than 2^55 events, and each of the other rooms is below 2^30
 pub record AreFew (rooms : Rooms) : Type 0 where
-  pub events : rooms.events < 2 ^ 30
+  pub events : rooms.events < 2 ^ 55
   pub kept : rooms.kept < 2 ^ 30
   pub tail : rooms.tail < 2 ^ 30
   pub objects : rooms.objects < 2 ^ 30

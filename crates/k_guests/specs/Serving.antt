@@ -1,5 +1,5 @@
 -- Processes, kernel, shared heaps and book of a host, as they stand between its calls.
-use Rattle.std.specs.Prelude.{◌≡◌, ℕ, ◌<◌, ◌≤◌, IsFalse, List, Option, Some, None, [], length, replicate, slice_get, slice_index_or}
+use Rattle.std.specs.Prelude.{◌≡◌, ℕ, ◌<◌, ◌≤◌, ◌^◌, IsFalse, List, Option, Some, None, [], length, replicate, slice_get, slice_index_or}
 use Rattle.atomic_table.specs.Seated.{TableId}
 use Rattle.k_types.specs.declared.names.CellPhase.TheVariants.{Idle}
 use Rattle.k_types.specs.declared.names.Heap.TheVariants.{Kernel, Shared, User}
@@ -11,6 +11,7 @@ use Rattle.k_types.specs.Trace.{Trace, process_count, segment_count, segment_of,
 use Rattle.k_types.specs.TraceRules.{KeepsRules}
 use Rattle.k_agree.specs.Agreement.{Agrees}
 use Rattle.k_book.specs.Books.{BookRecord}
+use Rattle.k_book.specs.Objects.{objects_after}
 use Rattle.k_cell.specs.Holdings.{HoldingsValue}
 use Rattle.k_heap.specs.Heaps.{has_ended_in, own_segment}
 use Rattle.k_shared.specs.SharedHeaps.{SharedRecord}
@@ -92,11 +93,16 @@ pub record SharedServes (basis : Basis) (tie : TableId) (s : SharedRecord) : Typ
   pub exits : s.exit_room ≡ basis.rooms.exits
   pub serials : IsFalse (is_absorbed_in s.value.phase) → HasSegment s.serial_rooms s.seg.0
 
--- the book stands, with the room that the basis says for events, for the last of them that can be read and for entry items; and the
--- kernel's heap has room for the exit items that come to it when the processes end
+-- 32 bits count the objects of the machine after the journal
+abbrev pub HasFewObjectsIn : Basis → BookRecord → Type 0
+HasFewObjectsIn basis b = objects_after basis.trace b.journal.list < 2 ^ 32
+
+-- the book stands, with the room that the basis says for events, for the last of them that can be read and for entry items; 32 bits count
+-- the objects of the machine, and the kernel's heap has room for the exit items that come to it when the processes end
 pub record BookServes (basis : Basis) (b : BookRecord) : Type 0 where
   pub stands : BookStands basis.trace b
   pub events : b.event_room ≡ basis.rooms.events
+  pub few : HasFewObjectsIn basis b
   pub kept : b.kept ≡ basis.rooms.kept
   pub entries : b.entry_room ≡ basis.rooms.entries
   pub reserve : HasReserveAt basis (state_after basis.trace b.journal.list)

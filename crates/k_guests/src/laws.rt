@@ -11,7 +11,7 @@ ghost use Rattle.k_types.specs.Trace.{Trace};
 ghost use Rattle.k_tie.specs.Values.{JournalValue, NoteValue};
 ghost use Rattle.k_agree.specs.Agreement.{Agrees, BookAgrees};
 ghost use Rattle.k_agree.specs.Meeting.{Fits};
-ghost use Rattle.k_guests.specs.Objects.{gone_by, made_by, objects_after};
+ghost use Rattle.k_book.specs.Objects.{gone_by, made_by, objects_after};
 ghost use Rattle.k_guests.specs.Reserve.{Spares, kept_for};
 
 /// The kernel's heap has exit items, and for each process that lives so many more are kept back, since what the process has becomes

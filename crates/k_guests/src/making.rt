@@ -21,7 +21,10 @@ use k_types::{Pid, SharedId};
 use std::alloc::Global;
 use std::collections::VecDeque;
 
-/// One more than the most for which a host can be asked to have room.
+/// One more than the most events for which a host can be asked to have room.
+const EVENTS_BELOW: u64 = 1 << 55;
+
+/// One more than the most of anything else for which a host can be asked to have room.
 const ROOM_BELOW: u32 = 1 << 30;
 
 /// The parts of a host.
@@ -37,11 +40,11 @@ pub struct Parts {
     pub book: Book,
 }
 
-/// Whether each of the rooms is below 2^30.
+/// Whether there are fewer than 2^55 events, and each of the other rooms is below 2^30.
 fn are_few(rooms: &Rooms) -> bool
     ensures { IsTrue result ↔ AreFew rooms.now }
 {
-    rooms.events < ROOM_BELOW
+    rooms.events < EVENTS_BELOW
         && rooms.kept < ROOM_BELOW
         && rooms.tail < ROOM_BELOW
         && rooms.objects < ROOM_BELOW
@@ -64,13 +67,13 @@ fn has_reserve(procs: usize, exits: u32, kernel_exits: u32) -> bool
 fn are_enough(procs: usize, rooms: &Rooms) -> bool
     ensures { IsTrue result ↔ AreEnough procs rooms.now }
 {
-    rooms.kept <= rooms.events
+    u64::from(rooms.kept) <= rooms.events
         && 1 <= rooms.tail
         && 1 <= rooms.objects
         && has_reserve(procs, rooms.exits, rooms.kernel_exits)
 }
 
-/// Whether the setup has the type, each of the rooms is below 2^30, no more events are kept than there can be, there is room for an
+/// Whether the setup has the type, the rooms are few, no more events are kept than there can be, there is room for an
 /// unpublished event and an object, and the kernel's heap has room for the exit items of all processes.
 pub fn are_fit(terms: &Terms) -> bool
     ensures { IsTrue result ↔ AreFit terms.now.setup terms.now.ty terms.now.rooms }

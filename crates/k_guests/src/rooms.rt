@@ -1,8 +1,11 @@
 //! For how much a host has room.
 ghost use Rattle.std.specs.Prelude.{◌≡◌, ◌+◌, ◌*◌, ◌<◌, ◌^◌};
-ghost use Rattle.k_guests.specs.Enough.{greater, lesser, most_room};
+ghost use Rattle.k_guests.specs.Enough.{greater, lesser, most_events, most_room};
 
-/// The most for which a host can be asked to have room.
+/// The most events for which a host can be asked to have room.
+const MOST_EVENTS: u64 = (1 << 55) - 1;
+
+/// The most of anything else for which a host can be asked to have room.
 const MOST: u32 = (1 << 30) - 1;
 
 /// The most events of one process that are unpublished, where nobody says how many.
@@ -12,7 +15,7 @@ const LONG_TAIL: u32 = 1024;
 #[derive(Clone, Copy, Debug, PartialEq, Eq)]
 pub struct Rooms {
     /// How many events the journal can have in the host's whole life.
-    pub events: u32,
+    pub events: u64,
     /// How many of the last events can be read.
     pub kept: u32,
     /// How many events of one process can be unpublished, at least 1.
@@ -56,7 +59,7 @@ impl Rooms {
     /// objects, and as many events as there can be, none of which is kept for reading. Where all that would be more than a host can be
     /// asked to have room for, it is the most of that.
     pub fn for_objects(objects: u32, processes: u32, heaps: u32) -> Rooms
-        ensures events { result.events ≡ most_room }
+        ensures events { result.events ≡ most_events }
         ensures kept { result.kept ≡ 0 }
         ensures tail { result.tail ≡ lesser (greater objects 1) 1024 }
         ensures objects { result.objects ≡ objects }
@@ -66,7 +69,7 @@ impl Rooms {
     {
         let processes = u64::from(processes);
         Rooms {
-            events: MOST,
+            events: MOST_EVENTS,
             kept: 0,
             tail: tail_for(objects),
             objects,

@@ -51,7 +51,7 @@ impl Host {
     }
 
     /// How many operations of the process are done; `None` where there is no such process. Constant time.
-    pub fn done(&self, pid: Pid) -> Option<u32>
+    pub fn done(&self, pid: Pid) -> Option<u64>
         ensures { result ≡ option_map done_by (slice_get self.now.guests pid.0) }
     {
         let guest = self.guests.get(pid.0 as usize)?;

@@ -10,7 +10,7 @@ pub enum OpenError {
     NoMemory(NoMemory),
     /// The text spells no trace: the number of its first bad line, counted from 1, and the number of the reason.
     Bad { line: u32, reason: u32 },
-    /// The setup has no such type, or the events are 2^30 or more.
+    /// The setup has no such type, or the rooms are not fit.
     Terms,
 }
 

@@ -120,7 +120,7 @@ impl Host {
     /// Each changes nothing: `Unknown`, `OwnCall`, `Ended` and `NoMemory` as they say, `Phase` where a collection is open of the process's
     /// heap, or of the kernel's or a killed process's where the operation touches that, `Full` where the journal has no room for what is
     /// unpublished and one event more, or the process has done as many operations as can be counted, `Objects` where the heap has no room for
-    /// the object, and `Items` where it has no exit item left or the book no entry item.
+    /// the object or the host has as many as 32 bits count, and `Items` where it has no exit item left or the book no entry item.
     #[inline(always)]
     pub fn operate(&mut self, pid: Pid, op: &Op) -> Result<Event, HostError>
         ensures done { IfOk result (λ event. HasOperatedIn self.old self.new pid op.now event) }

@@ -61,7 +61,7 @@ impl Host {
     }
 
     /// The number of events in the journal. Constant time.
-    pub fn len(&self) -> u32
+    pub fn len(&self) -> u64
         ensures { result ≡ length self.now.book.journal.list }
     {
         self.book.len()
@@ -69,11 +69,11 @@ impl Host {
 
     /// The event of that number in the journal, from 0; `None` past the last, and where it is no more among those that are kept. Constant
     /// time.
-    pub fn event(&self, number: u32) -> Option<Event>
+    pub fn event(&self, number: u64) -> Option<Event>
         ensures { result ≡ event_of self.now number }
     {
         let count = self.book.len();
-        if number >= count || count - number > self.terms.rooms.kept {
+        if number >= count || count - number > u64::from(self.terms.rooms.kept) {
             return None;
         }
         Some(*self.book.event(number))

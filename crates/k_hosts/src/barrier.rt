@@ -34,7 +34,7 @@ fn answered<R: Abort>(rt: &R, host: &mut Host) -> Result<(), Fail> {
 fn recorded<R: Abort>(rt: &R, host: &Host) {
     let steps = steps();
     assert_eq!(rt; host.len(), 8);
-    for number in 0..8u32 {
+    for number in 0..8u64 {
         let (pid, op, reply) = steps[number as usize];
         assert_eq!(rt; host.event(number), Some(Event::Done { pid, op, reply }));
     }

@@ -7,7 +7,7 @@ use std::process::Abort;
 use std::test::Fail;
 
 /// The journal has so many events, and lacks so many of the first process.
-fn check_lengths<R: Abort>(rt: &R, host: &Host, published: u32, waiting: u32) {
+fn check_lengths<R: Abort>(rt: &R, host: &Host, published: u64, waiting: u32) {
     assert_eq!(rt; host.len(), published);
     assert_eq!(rt; host.unpublished(P1), Some(waiting));
 }
@@ -90,7 +90,7 @@ fn make(keeper: &mut Keeper, reg: u8) -> Result<(), Fail> {
 }
 
 /// The number of the next event; none where there is none.
-fn number(taken: Option<Taken>) -> Option<u32> {
+fn number(taken: Option<Taken>) -> Option<u64> {
     Some(taken?.number)
 }
 

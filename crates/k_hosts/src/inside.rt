@@ -24,7 +24,7 @@ fn work_inside<R: Abort>(rt: &R, host: &mut Host) -> Result<(), Fail> {
 }
 
 /// The journal has so many events, and lacks so many of the first process.
-fn check_lengths<R: Abort>(rt: &R, host: &Host, published: u32, waiting: u32) {
+fn check_lengths<R: Abort>(rt: &R, host: &Host, published: u64, waiting: u32) {
     assert_eq!(rt; host.len(), published);
     assert_eq!(rt; host.unpublished(P1), Some(waiting));
 }

@@ -36,11 +36,11 @@ fn kill(keeper: &mut Keeper, pid: Pid) -> Result<Event, HostError> {
     keeper.kill(pid)
 }
 
-fn left(keeper: &Keeper) -> u32 {
+fn left(keeper: &Keeper) -> u64 {
     keeper.left()
 }
 
-fn len(keeper: &Keeper) -> u32 {
+fn len(keeper: &Keeper) -> u64 {
     keeper.host().len()
 }
 

@@ -21,7 +21,7 @@ pub(crate) const EVENTS: u32 = 2000;
 /// Room for so many events, which can all be read, and for all else that a test needs.
 pub(crate) fn rooms(events: u32) -> Rooms {
     Rooms {
-        events,
+        events: u64::from(events),
         kept: events,
         tail: 2000,
         objects: 2000,

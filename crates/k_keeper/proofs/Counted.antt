@@ -30,7 +30,8 @@ use Rattle.k_host.specs.k_guests.declared.guest.Guest.{Guest}
 use Rattle.k_host.specs.k_guests.Objects.{gone_by, made_by, objects_after}
 use Rattle.k_host.specs.k_guests.Enough.{lesser}
 use Rattle.k_host.specs.k_guests.Serving.{Basis}
-use Rattle.k_host.proofs.Objects.{appended_counts, makes_none, published_counts}
+use Rattle.k_host.proofs.Objects.{appended_counts, made_or_gone, makes_none, published_counts}
+use Rattle.k_book.proofs.Counted.{made_low}
 use Rattle.k_host.specs.Calls.{HasAbsorbedIn, HasCollectedIn, HasCollectedKernelIn, HasExitedIn, HasKilledIn, HasOperatedAs, HasOperatedIn, HasPublishedIn}
 use Rattle.k_host.specs.Doing.{IsKept as IsKeptInside, IsKeptAndPublished, IsRecorded}
 use Rattle.k_host.specs.HostError.{HostError}
@@ -42,12 +43,6 @@ use Rattle.k_keeper.proofs.Refused.{operated_basis}
 -- what an event makes and frees comes to and goes from what there was
 abbrev Counts : HostValue → HostValue → Event → Type 0
 Counts h n event = objects_in n + gone_by event ≡ objects_in h + made_by event
-
-made_or_gone : (event : Event) → (made_by event ≡ 0) ⊎ (gone_by event ≡ 0)
-made_or_gone (Done pid op said) = inr refl
-made_or_gone (Ended h objects bytes exits shares) = inl refl
-made_or_gone (Absorbed s) = inl refl
-made_or_gone Closing = inl refl
 
 local_asks_none : (part : CellPart) (p : ℕ) (op : Op) → is_local_in part p op ≡ true → is_allocation op ≡ false
 unfolding is_local_in
@@ -165,16 +160,6 @@ still_counted h n left rest a =
     ap (λ (b : Basis). objects_after b.trace n.book.journal.list) a.basis ∙ ap (objects_after h.basis.trace) a.journal
     ∙ ap (λ (st : State). length st.objects) (run_append h.basis.trace (opening h.basis.trace) h.book.journal.list (map Absorbed a.ids))
     ∙ absorbed_same h.basis.trace a.ids (state_after h.basis.trace h.book.journal.list)
-
-made_low : (event : Event) → made_by event ≤ 1
-made_low (Done pid op DoneReply) = zero-le
-made_low (Done pid op (Made m)) = omega arith
-made_low (Done pid op (Loaded m)) = zero-le
-made_low (Done pid op (Value m)) = zero-le
-made_low (Done pid op (Refused fault)) = zero-le
-made_low (Ended h objects bytes exits shares) = zero-le
-made_low (Absorbed s) = zero-le
-made_low Closing = zero-le
 
 -- an operation that asks for no object makes none
 done_makes_none : (trace : Trace) (st : State) (pid : Pid) (op : Op) (said : Reply) (event : Event) → event ≡ Done pid op said → is_allocation op ≡ false → IsPossible trace st event → made_by event ≡ 0

@@ -9,7 +9,7 @@ use k_host::Host;
 use k_types::SharedId;
 
 /// Absorbs the shared heap, which is the first orphan, and answers how many events are left.
-fn absorb_first(host: &mut Host, left: u32, id: SharedId) -> u32
+fn absorb_first(host: &mut Host, left: u64, id: SharedId) -> u64
     requires kept { IsKept host.old left }
     requires some { 1 ≤ left }
     requires first { lowest_orphan host.old.book.value.phases host.old.book.value.shares ≡ Some id.0 }
@@ -23,7 +23,7 @@ fn absorb_first(host: &mut Host, left: u32, id: SharedId) -> u32
 }
 
 /// Absorbs orphans until there is none, and answers how many events are left. No history absorbs a shared heap twice.
-pub(crate) fn absorb_all(host: &mut Host, left: u32) -> u32
+pub(crate) fn absorb_all(host: &mut Host, left: u64) -> u64
     requires kept { IsKept host.old left }
     requires enough { needed_by_the_kernel host.old ≤ left }
     ensures kept { IsKept host.new result }

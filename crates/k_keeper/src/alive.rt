@@ -23,14 +23,14 @@ pub(crate) fn alive(host: &Host, pid: Pid) -> Result<(), HostError>
 }
 
 /// Whether so many events are left.
-fn is_enough(left: u32, needed: u64) -> bool
+fn is_enough(left: u64, needed: u64) -> bool
     ensures { IsTrue result ↔ (needed ≤ left) }
 {
-    needed <= u64::from(left)
+    needed <= left
 }
 
 /// Tells that so many events are left.
-pub(crate) fn spared(left: u32, needed: u64) -> Result<(), HostError>
+pub(crate) fn spared(left: u64, needed: u64) -> Result<(), HostError>
     ensures ok { OnOk result (needed ≤ left) }
     ensures why { IfErr result (λ why. Lacks HostError.Reserved (needed ≤ left) why) }
 {
@@ -41,7 +41,7 @@ pub(crate) fn spared(left: u32, needed: u64) -> Result<(), HostError>
 }
 
 /// Tells that the process lives, and that so many events are left.
-pub(crate) fn ready(host: &Host, pid: Pid, left: u32, needed: u64) -> Result<(), HostError>
+pub(crate) fn ready(host: &Host, pid: Pid, left: u64, needed: u64) -> Result<(), HostError>
     ensures ok { OnOk result (IsAlive host.now pid × (needed ≤ left)) }
     ensures why { IfErr result (λ why. IsGone host.now pid why ⊎ Lacks HostError.Reserved (needed ≤ left) why) }
 {

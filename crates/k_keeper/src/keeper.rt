@@ -25,11 +25,11 @@ use std::marker::Model;
 #[derive(Drop)]
 pub struct Keeper {
     pub(crate) host: Host,
-    pub(crate) left: u32,
+    pub(crate) left: u64,
     pub(crate) freed: Freed,
     pub(crate) most: u32,
     pub(crate) objects: u32,
-    pub(crate) taken: u32,
+    pub(crate) taken: u64,
 }
 
 impl Model for Keeper {
@@ -72,7 +72,7 @@ impl Keeper {
         if !fits(&host, rooms.events) {
             return Err(OpenError::Terms);
         }
-        let left = rooms.events - host.processes();
+        let left = rooms.events - u64::from(host.processes());
         let most = most_objects(&host, rooms.objects);
         let freed = Freed::make(alloc, most)?;
         Ok(Keeper {
@@ -102,7 +102,7 @@ impl Keeper {
     }
 
     /// How many events are left beside those that are kept for the ends of processes. Constant time.
-    pub fn left(&self) -> u32
+    pub fn left(&self) -> u64
         ensures { result ≡ self.now.left }
     {
         self.left

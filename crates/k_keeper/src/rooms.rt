@@ -38,7 +38,7 @@ pub(crate) fn needed_to_absorb(host: &Host) -> u64
 }
 
 /// How many events are left once a call that takes so many is done, or is refused.
-pub(crate) fn left_after(left: u32, cost: u32, came: &Result<Event, HostError>) -> u32
+pub(crate) fn left_after(left: u64, cost: u64, came: &Result<Event, HostError>) -> u64
     requires { cost ≤ left }
     ensures { result ≡ left_after left cost came.now }
 {
@@ -122,8 +122,8 @@ pub(crate) fn has_object_left(objects: u32, most: u32, op: &Op) -> Result<(), Ho
 }
 
 /// Whether so many events are enough for the ends of all processes and for one operation beside the reserve. Constant time.
-pub(crate) fn fits(host: &Host, events: u32) -> bool
+pub(crate) fn fits(host: &Host, events: u64) -> bool
     ensures { IsTrue result ↔ (needed_to_operate host.now + length host.now.guests ≤ events) }
 {
-    u64::from(host.shared_heaps()) + 3 * u64::from(host.processes()) + 3 <= u64::from(events)
+    u64::from(host.shared_heaps()) + 3 * u64::from(host.processes()) + 3 <= events
 }

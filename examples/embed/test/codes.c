@@ -49,7 +49,7 @@ static const struct {
     const char *what;
     kaffe_rooms rooms;
 } UNFIT[] = {
-    {"2^30 events", {TOO_MANY, 0, 1, 1, 0, 0, 0}},
+    {"2^55 events", {1ULL << 55, 0, 1, 1, 0, 0, 0}},
     {"too few events", {FEWEST_EVENTS - 1, 0, 1, 1, 0, 0, 0}},
     {"more kept than there are", {FEWEST_EVENTS, FEWEST_EVENTS + 1, 1, 1, 0, 0, 0}},
     {"no row of what is unpublished", {FEWEST_EVENTS, 0, 0, 1, 0, 0, 0}},
@@ -349,7 +349,7 @@ static void asked_for(const char *what, const kaffe_event *event, kaffe_request 
 }
 
 /* The next event is that of this number, and was asked for by the request. */
-static kaffe_event taken(kaffe_host *h, uint32_t number, kaffe_request q) {
+static kaffe_event taken(kaffe_host *h, uint64_t number, kaffe_request q) {
     static kaffe_event event;
     due("there is an event", (uint64_t)kaffe_take(h, &event), 1);
     due("its number", event.number, number);
@@ -393,8 +393,8 @@ static void events(void) {
     }
     due("an event after the last", (uint64_t)kaffe_take(h, &event), 0);
     due("how many there are", kaffe_ask(h, KAFFE_ASK_EVENTS, 0, 0).number, number);
-    STATUS(kaffe_ask(h, KAFFE_ASK_EVENT, 0, number), KAFFE_UNKNOWN);
-    STATUS(kaffe_ask(h, KAFFE_ASK_CAME, 0, number), KAFFE_UNKNOWN);
+    STATUS(kaffe_request_call(h, KAFFE_ASK_EVENT, 0, 0, 0, 0, 0, number), KAFFE_UNKNOWN);
+    STATUS(kaffe_request_call(h, KAFFE_ASK_CAME, 0, 0, 0, 0, 0, number), KAFFE_UNKNOWN);
     kaffe_free(h);
 }
 

@@ -466,7 +466,7 @@ class Host:
         if q.call == EVENTS:
             return answer(what=NUMBER, number=len(self.journal))
         if q.call in (EVENT, CAME):
-            return self.journal[q.at][q.call == CAME] if self.is_kept(q.at) else answer(status=UNKNOWN)
+            return self.journal[q.number][q.call == CAME] if self.is_kept(q.number) else answer(status=UNKNOWN)
         if q.call == FIRST_ORPHAN:
             s = self.orphan()
             return answer(status=UNKNOWN) if s is None else answer(what=NUMBER, number=s)

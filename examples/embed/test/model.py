@@ -48,7 +48,7 @@ def declaration(rng, events):
     of_type, bodies = rng.randrange(len(types)), rng.choice([0, events // 20, events])
     text = ("\n".join(lines) + "\n").encode()
     rooms = some_rooms(rng, events, 3 * len(procs) + shared + 3, len(procs))
-    head = struct.pack("<10I", len(text), of_type, bodies, *astuple(rooms)) + text
+    head = struct.pack("<3IQ6I", len(text), of_type, bodies, *astuple(rooms)) + text
     return head, Host(ceiling, directory, types, limits, procs, shared, of_type, bodies, rooms)
 
 
@@ -92,7 +92,7 @@ def some_call(rng, host):
         at = len(host.freed) + rng.choice([0, 1, 1 << 31])
     if call in (EVENT, CAME):
         last = len(host.journal)
-        at = rng.choice([last, max(0, last - 1), max(0, last - host.rooms.kept), max(0, last - host.rooms.kept - 1), rng.randrange(last + 1), 1 << 31])
+        number = rng.choice([last, max(0, last - 1), max(0, last - host.rooms.kept), max(0, last - host.rooms.kept - 1), rng.randrange(last + 1), 1 << 63])
     if call == KILL_BY and not odd:
         at = rng.randrange(len(host.procs))
     if call == RESIZE and not odd:

@@ -11,4 +11,4 @@ step_own-requires g c =
 
 pub returns : goal.returns
 returns g c =
-    done_alone g.basis c.args.guest.now c.args.book.now c.args.op.now [] c.requires.0 c.publish.new.cell c.publish.new.book c.publish.ensures c.step_own.new.cell c.step_own.new.book c.step_own.result c.step_own.ensures refl
+    done_alone g.basis c.args.guest.now c.args.book.now c.args.op.now [] c.requires.0 c.publish.new.cell c.publish.new.book c.publish.ensures c.step_own.new.cell c.step_own.new.book c.step_own.result c.step_own.ensures refl c.requires.1

@@ -14,4 +14,4 @@ step_shared-requires g c =
 pub returns : goal.returns
 returns g c =
     done_with_shared g.basis c.args.guest.now c.args.book.now c.args.op.now (Shared c.args.shared.now.id ∷ []) c.requires.due c.publish.new.cell c.publish.new.book c.publish.ensures
-    c.step_shared.new.cell c.step_shared.new.book c.step_shared.result c.args.shared.now c.step_shared.new.shared c.requires.shared refl c.step_shared.ensures
+    c.step_shared.new.cell c.step_shared.new.book c.step_shared.result c.args.shared.now c.step_shared.new.shared c.requires.shared c.requires.room refl c.step_shared.ensures
