@@ -4,7 +4,7 @@ use crate::heap::Heap;
 use crate::host::{Host, Limit, Process};
 
 /// A host of what the text declares, or the number of the first line that declares nothing.
-pub fn read(text: &str, events: u32) -> Result<Host, u32> {
+pub fn read(text: &str, events: u64) -> Result<Host, u32> {
     let mut host = Host::new(events);
     let mut names: Vec<&str> = Vec::new();
     for (at, line) in text.lines().enumerate() {

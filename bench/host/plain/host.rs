@@ -78,7 +78,7 @@ fn named(link: Option<Link>) -> Answer {
 }
 
 impl Host {
-    pub fn new(events: u32) -> Self {
+    pub fn new(events: u64) -> Self {
         let journal = Vec::with_capacity(if KEEPS_JOURNAL { events as usize } else { 0 });
         let (kinds, limits, processes) = (Vec::new(), Vec::new(), Vec::new());
         Host { kinds, limits, processes, kernel: Heap::new(0), entries: HashMap::new(), pins: HashMap::new(), journal }

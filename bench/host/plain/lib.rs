@@ -46,7 +46,7 @@ pub struct Answer {
 #[repr(C)]
 #[derive(Clone, Copy, Default)]
 pub struct Rooms {
-    events: u32,
+    events: u64,
     kept: u32,
     tail: u32,
     objects: u32,

@@ -54,7 +54,7 @@ use Rattle.k_calls.proofs.Reserved.{operation_kept}
 use Rattle.k_book.specs.Objects.{made_by, objects_after}
 use Rattle.k_book.proofs.Counted.{made_low}
 use Rattle.k_guests.proofs.Objects.{appended_counts, makes_none, objects_are_told, published_counts}
-use Rattle.k_calls.proofs.Rooms.{bodies_left, event_left, kernel_counted, kernel_item, kernel_tables, own_counted, own_tables, shared_counted, shared_tables}
+use Rattle.k_calls.proofs.TestedRooms.{bodies_left, event_left, kernel_counted, kernel_item, kernel_tables, own_counted, own_tables, shared_counted, shared_tables}
 
 -- publishing
 module _ (basis : Basis) {bodies : List BodyValue} (g : Guest) (b : BookRecord) (guest : GuestServesWith basis b.journal.table bodies g) (book : BookServes basis b) where

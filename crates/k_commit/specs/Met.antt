@@ -22,7 +22,7 @@ pub record CanMeet (trace : Trace) (cell : Cell) (note : NoteValue) (value : Cel
   pub table : note.table ≡ book.journal.table
 
 -- what is known of a cell whose note meets the journal: the note fits it, so that the cell speaks of the whole journal, and the
--- book has room for fewer than 2 ^ 32 events
+-- book has room for fewer than 2 ^ 55 events
 pub record FitsTheBook (trace : Trace) (cell : Cell) (note : NoteValue) (value : CellValue) (book : BookRecord) : Type 0 where
   pub fits : Fits book.journal note
   pub shows : ShowsTheJournal trace book.journal cell note value

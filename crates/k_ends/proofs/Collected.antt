@@ -43,7 +43,7 @@ use Rattle.k_calls.specs.k_guests.Serving.{Basis, BookServes, GuestServes, HasRe
 use Rattle.k_calls.specs.k_guests.Reserve.{Spares}
 use Rattle.k_calls.proofs.Due.{book_published, can_publish, guest_published, longer_published}
 use Rattle.k_calls.proofs.Going.{book_goes_on, guest_goes_on, kernel_goes_on}
-use Rattle.k_calls.proofs.Rooms.{event_left, few_of, few_of_kernel}
+use Rattle.k_calls.proofs.TestedRooms.{event_left, few_of, few_of_kernel}
 
 -- the end of what is open is one event at most
 one_end : (phase : CellPhase) → ends_to_come phase ≤ 1

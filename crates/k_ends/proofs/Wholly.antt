@@ -28,7 +28,7 @@ use Rattle.k_calls.specs.k_guests.Objects.{gone_by, made_by, objects_after}
 use Rattle.k_calls.specs.k_guests.Reserve.{Spares}
 use Rattle.k_calls.proofs.Objects.{appended_counts, published_counts, settled_few}
 use Rattle.k_ends.proofs.Handed.{book_appended}
-use Rattle.k_calls.proofs.Rooms.{event_left, few_of, few_of_kernel}
+use Rattle.k_calls.proofs.TestedRooms.{event_left, few_of, few_of_kernel}
 use Rattle.k_ends.specs.Collecting.{CanBeginKernel, CanGoOn}
 use Rattle.k_ends.specs.Whole.{AreFreedLast, CanCollect, CanCollectKernel, HasCollected, HasCollectedKernel}
 
