@@ -11,7 +11,7 @@ ghost use Rattle.k_types.specs.Trace.{Trace};
 ghost use Rattle.k_tie.specs.Values.{JournalValue, NoteValue};
 ghost use Rattle.k_agree.specs.Agreement.{Agrees, BookAgrees};
 ghost use Rattle.k_agree.specs.Meeting.{Fits};
-ghost use Rattle.k_book.specs.Objects.{gone_by, made_by, objects_after};
+ghost use Rattle.k_book.specs.Objects.{gone_by, made_by, objects_after, objects_told};
 ghost use Rattle.k_guests.specs.Reserve.{Spares, kept_for};
 
 /// The kernel's heap has exit items, and for each process that lives so many more are kept back, since what the process has becomes
@@ -26,10 +26,12 @@ pub fn what_is_kept_back_is_enough()
         kept_for trace each (state_after trace journal.list) ≤ all → kept_for trace each (state_after trace (journal.list ++ value.tail)) ≤ all }
 {}
 
-/// An event makes an object where its reply names one, and frees as many as it says. What a process publishes makes and frees none.
+/// An event makes an object where its reply names one, and frees as many as it says. So the events of a history tell how many objects the
+/// machine has after it. What a process publishes makes and frees none.
 pub fn objects_come_and_go()
     ensures event { (trace : Trace) (st : State) (event : Event) → IsPossible trace st event →
         length (step trace st event).objects + gone_by event ≡ length st.objects + made_by event }
+    ensures told { (trace : Trace) (history : List Event) → IsLegalHistory trace history → objects_after trace history ≡ objects_told history }
     ensures published { (trace : Trace) (history : List Event) (pid : Pid) (note : NoteValue) (value : CellValue) →
         Agrees trace (User pid) note value → IsLegalHistory trace (history ++ value.tail) →
         objects_after trace (history ++ value.tail) ≡ objects_after trace history }
