@@ -12,6 +12,7 @@
 #![tactic(auto)]
 
 mod changing;
+mod growing;
 mod homes;
 mod journaling;
 mod laws;
@@ -20,6 +21,7 @@ mod reading;
 mod squares;
 mod walking;
 
+pub use k_entered::EntryRoom;
 pub use laws::{opened_books_agree, the_book_tells_the_machine, the_books_limits_are_the_machines};
 pub use parts::Book;
 pub use squares::{

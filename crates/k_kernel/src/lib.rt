@@ -6,6 +6,7 @@
 #![tactic(auto)]
 
 mod changing;
+mod growing;
 mod kernel;
 mod reading;
 

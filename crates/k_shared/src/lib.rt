@@ -6,6 +6,7 @@
 
 mod cell;
 mod changing;
+mod growing;
 mod reading;
 
 pub use cell::SharedCell;
