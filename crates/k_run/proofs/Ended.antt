@@ -5,9 +5,9 @@ use Rattle.k_types.specs.Trace.{Trace, trace_of}
 use Rattle.k_order.proofs.Laws.{ended_histories_leave_what_the_directory_reaches}
 use Rattle.k_state.specs.Machines.{setup_of}
 use Rattle.k_trace.specs.Named.{DeclaredNames, NamedTrace}
-use Rattle.k_outcome.specs.k_process.Over.{OutcomeValue}
-use Rattle.k_outcome.specs.Ends.{EndsRun}
-use Rattle.k_outcome.specs.Listed.{AreRoomsFor, CanEnd}
+use Rattle.k_still.specs.k_outcome.k_process.Over.{OutcomeValue}
+use Rattle.k_still.specs.k_outcome.Ends.{EndsRun}
+use Rattle.k_still.specs.k_outcome.Listed.{AreRoomsFor, CanEnd}
 use Rattle.k_run.specs.Runs.{IsRunOf}
 
 -- a trace of the setup has that setup

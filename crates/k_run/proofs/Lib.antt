@@ -1,11 +1,8 @@
-pub mod Places
-pub mod Gathered
 pub mod Stepped
 pub mod Ended
-pub mod Told
 pub mod Replayed
 pub mod Opened
-pub mod Reported
 pub mod Shows
 pub mod Watched
-pub use Rattle.k_outcome.proofs.Setups
+pub use Rattle.k_still.proofs.Setups
+pub use Rattle.k_still.proofs.Told

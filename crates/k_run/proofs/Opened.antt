@@ -4,13 +4,13 @@ use Rattle.std.proofs.lemmas.List.Elements.{All-replicate}
 use Rattle.k_types.specs.declared.setup.Setup.{Setup}
 use Rattle.k_turns.specs.Values.{PassValue, TurnsValue, fresh_pass}
 use Rattle.k_shared.specs.SharedHeaps.{SharedRecord}
-use Rattle.k_outcome.specs.k_process.declared.process.Process.{Process}
-use Rattle.k_outcome.specs.k_process.Standing.{HeapsStand, ProcessesStand}
-use Rattle.k_outcome.specs.k_process.Worlds.{WorldValue}
+use Rattle.k_still.specs.k_outcome.k_process.declared.process.Process.{Process}
+use Rattle.k_still.specs.k_outcome.k_process.Standing.{HeapsStand, ProcessesStand}
+use Rattle.k_still.specs.k_outcome.k_process.Worlds.{WorldValue}
 use Rattle.k_still.specs.Opening.{IsSetupOf}
-use Rattle.k_outcome.specs.Listed.{AreRoomsFor}
-use Rattle.k_run.specs.declared.rooms.EndRooms.{EndRooms}
-use Rattle.k_run.specs.Rooms.{AreEndRooms}
+use Rattle.k_still.specs.k_outcome.Listed.{AreRoomsFor}
+use Rattle.k_still.specs.declared.ending.EndRooms.{EndRooms}
+use Rattle.k_still.specs.EndRooms.{AreEndRooms}
 use Rattle.k_run.specs.Worlds.{AreFree, HoldsRun, IsFree}
 
 -- there are processes, and few of them

@@ -2,12 +2,12 @@
 use Rattle.std.proofs.Common.{◌≡◌, ◌∙◌, ap, List, map, refl}
 use Rattle.k_types.specs.declared.names.Pid.{Pid}
 use Rattle.k_trace.specs.Named.{NamedTrace}
-use Rattle.k_outcome.specs.k_process.Heaps.{HeapsValue, value_of}
-use Rattle.k_outcome.specs.k_process.Over.{cells_of}
+use Rattle.k_still.specs.k_outcome.k_process.Heaps.{HeapsValue, value_of}
+use Rattle.k_still.specs.k_outcome.k_process.Over.{cells_of}
 use Rattle.k_complete.specs.Replaying.{CanReplay, HasReplayed}
 use Rattle.k_state.specs.Machines.{setup_of}
-use Rattle.k_outcome.specs.Ends.{EndsRun}
-use Rattle.k_outcome.proofs.OverByMeeting.{met_ends}
+use Rattle.k_still.specs.k_outcome.Ends.{EndsRun}
+use Rattle.k_still.proofs.OverByMeeting.{met_ends}
 use Rattle.k_still.specs.declared.first.FirstCells.{FirstCells}
 use Rattle.k_still.specs.Opening.{IsOpened, world_of}
 

@@ -9,8 +9,8 @@ use Rattle.k_types.specs.declared.op.Op.{Op}
 use Rattle.k_types.specs.Complete.{IsPrefixOf}
 use Rattle.k_types.specs.Trace.{Trace}
 use Rattle.k_book.specs.Books.{BookRecord}
-use Rattle.k_outcome.specs.k_process.declared.process.Process.{Process}
-use Rattle.k_outcome.specs.k_process.Worlds.{WorldValue}
+use Rattle.k_still.specs.k_outcome.k_process.declared.process.Process.{Process}
+use Rattle.k_still.specs.k_outcome.k_process.Worlds.{WorldValue}
 use Rattle.k_complete.specs.Adding.{AddsEnd, AddsOne, AddsOperation, known_to}
 use Rattle.k_complete.specs.Killing.{known_to_both}
 use Rattle.k_complete.specs.Steps.{HasPublishedAll}

@@ -14,10 +14,10 @@ use Rattle.k_squares.specs.Touches.{other_cells_in}
 use Rattle.k_moves.specs.Shown.{idle_part}
 use Rattle.k_book.specs.Books.{BookRecord}
 use Rattle.k_heap.specs.Heaps.{HeapRecord}
-use Rattle.k_outcome.specs.k_process.Keeping.{operations_left}
-use Rattle.k_outcome.specs.k_process.declared.process.Process.{Process}
-use Rattle.k_outcome.specs.k_process.Standing.{ComesNext, HasDone, IsNextOf}
-use Rattle.k_outcome.specs.k_process.Worlds.{WorldValue}
+use Rattle.k_still.specs.k_outcome.k_process.Keeping.{operations_left}
+use Rattle.k_still.specs.k_outcome.k_process.declared.process.Process.{Process}
+use Rattle.k_still.specs.k_outcome.k_process.Standing.{ComesNext, HasDone, IsNextOf}
+use Rattle.k_still.specs.k_outcome.k_process.Worlds.{WorldValue}
 use Rattle.k_complete.specs.Readiness.{IsOutside, begins_or_ends}
 use Rattle.k_complete.specs.Steps.{HasDoneInside, HasPublishedAll, PairStands}
 use Rattle.k_complete.specs.Collecting.{HasSameLeft, IsNextAndSettled}

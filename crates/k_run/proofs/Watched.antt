@@ -3,7 +3,7 @@ use Rattle.std.proofs.Common.{◌≡◌, ℕ, ◌+◌, ◌≤◌, List, [], ◌�
 use Rattle.std.proofs.lemmas.List.{length_push}
 use Rattle.atomic_table.specs.Seated.{TableId}
 use Rattle.k_trace.specs.Named.{NamedTrace}
-use Rattle.k_outcome.specs.Ends.{EndValue, journal_of}
+use Rattle.k_still.specs.k_outcome.Ends.{EndValue, journal_of}
 use Rattle.k_watch.specs.declared.sample.Sample.{Sample}
 use Rattle.k_watch.specs.Samples.{AllBelow, IsRising}
 use Rattle.k_watch.specs.Shown.{AllTellOf, HasWatched}

@@ -3,8 +3,8 @@ use Rattle.std.specs.Prelude.{◌≡◌, ℕ, ◌≤◌, List, Option, None, [],
 use Rattle.k_types.specs.Trace.{process_count}
 use Rattle.k_book.specs.Books.{BookRecord}
 use Rattle.k_shared.specs.SharedHeaps.{SharedRecord}
-use Rattle.k_outcome.specs.k_process.declared.process.Process.{Process}
-use Rattle.k_outcome.specs.k_process.Worlds.{WorldValue}
+use Rattle.k_still.specs.k_outcome.k_process.declared.process.Process.{Process}
+use Rattle.k_still.specs.k_outcome.k_process.Worlds.{WorldValue}
 
 -- there are as many locks as processes, as many free places, and an empty list with room for them
 pub record CanGather (world : WorldValue) (count : ℕ) (free : List (Option Process)) (into : List Process) (capacity : ℕ) (book : BookRecord) : Type 0 where

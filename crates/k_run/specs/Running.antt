@@ -14,15 +14,15 @@ use Rattle.k_shares.specs.Sharers.{lowest_orphan}
 use Rattle.k_book.specs.Books.{BookRecord}
 use Rattle.k_heap.specs.Heaps.{HeapRecord}
 use Rattle.k_cell.specs.Holdings.{HoldingsValue}
-use Rattle.k_outcome.specs.k_process.Keeping.{BookKeeps, KernelKeeps}
+use Rattle.k_still.specs.k_outcome.k_process.Keeping.{BookKeeps, KernelKeeps}
 use Rattle.k_complete.specs.Reach.{Reach}
 use Rattle.k_complete.specs.Reach.TheVariants.{Own, Kernel, Shared, End}
 use Rattle.k_run.specs.declared.turns.Turn.{Turn}
 use Rattle.k_run.specs.declared.turns.Turn.TheVariants.{Done, Over, Kills}
 use Rattle.k_complete.specs.Readiness.{IsOutside, IsReady}
 use Rattle.k_complete.specs.Collecting.{HasSameLeft, KernelCollects}
-use Rattle.k_outcome.specs.k_process.Standing.{ComesNext, HasDone}
-use Rattle.k_outcome.specs.k_process.Worlds.{WorldValue}
+use Rattle.k_still.specs.k_outcome.k_process.Standing.{ComesNext, HasDone}
+use Rattle.k_still.specs.k_outcome.k_process.Worlds.{WorldValue}
 
 -- the process has done the operation where the answer is yes; where it is no, nothing changed and the operation is not local
 pub record HasDoneUnless (trace : Trace) (op : Op) (old new : HeapRecord) (answer : Bool) : Type 0 where

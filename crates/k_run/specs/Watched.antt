@@ -2,7 +2,7 @@
 use Rattle.std.specs.Prelude.{◌≡◌, ℕ, ◌+◌, ◌≤◌, List, length}
 use Rattle.atomic_table.specs.Seated.{TableId}
 use Rattle.k_trace.specs.Named.{NamedTrace}
-use Rattle.k_outcome.specs.Ends.{EndValue, journal_of}
+use Rattle.k_still.specs.k_outcome.Ends.{EndValue, journal_of}
 use Rattle.k_watch.specs.declared.sample.Sample.{Sample}
 use Rattle.k_watch.specs.Numbers.{numbers_after}
 use Rattle.k_watch.specs.Samples.{IsLast, IsRising}

@@ -5,10 +5,10 @@ use Rattle.k_types.specs.declared.setup.Setup.{Setup}
 use Rattle.k_types.specs.Trace.{process_count, trace_of}
 use Rattle.k_trace.specs.Named.{DeclaredNames}
 use Rattle.k_turns.specs.Values.{IsPassOf, PassValue, TurnsValue}
-use Rattle.k_outcome.specs.k_process.Worlds.{WorldValue}
-use Rattle.k_outcome.specs.Listed.{AreRoomsFor}
-use Rattle.k_run.specs.declared.rooms.EndRooms.{EndRooms}
-use Rattle.k_run.specs.Rooms.{AreEndRooms}
+use Rattle.k_still.specs.k_outcome.k_process.Worlds.{WorldValue}
+use Rattle.k_still.specs.k_outcome.Listed.{AreRoomsFor}
+use Rattle.k_still.specs.declared.ending.EndRooms.{EndRooms}
+use Rattle.k_still.specs.EndRooms.{AreEndRooms}
 
 -- what callers see of a run: the names that its trace declares, and its setup
 pub record RunValue : Type 0 where

@@ -1,8 +1,8 @@
 //! Collections, absorptions and ends of processes under locks. While a heap is marked and swept its lock is held, and the book is free.
 ghost use Rattle.std.specs.Prelude.{IsFalse, IsTrue, ◌≡◌};
-ghost use Rattle.k_outcome.specs.k_process.Keeping.{KernelKeeps};
+ghost use Rattle.k_still.specs.k_outcome.k_process.Keeping.{KernelKeeps};
 ghost use Rattle.k_complete.specs.Collecting.{Collects, CollectsSwept, HasSameLeft, KernelCollectsSwept};
-ghost use Rattle.k_outcome.specs.k_process.Standing.{ComesNext, HasDone, ProcessStands};
+ghost use Rattle.k_still.specs.k_outcome.k_process.Standing.{ComesNext, HasDone, ProcessStands};
 ghost use Rattle.k_run.specs.Running.{HasBegunUnless, HasCollectedUnless, IsAbsorbedIfFirst, IsLeft};
 ghost use Rattle.k_types.specs.declared.names.CellPhase.TheVariants.{Begun};
 ghost use Rattle.k_types.specs.declared.op.Op.TheVariants.{Collect, Exit, KCollect, Kill};
@@ -23,7 +23,7 @@ use k_complete::{
 use k_io::{Gate, GatePlace};
 use k_kernel::KernelCell;
 use k_mark::Swept;
-use k_outcome::Process;
+use k_still::Process;
 use k_types::{Op, SharedId};
 use k_watch::show;
 use std::sync::{Mutex, Wait};

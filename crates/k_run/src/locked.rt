@@ -1,14 +1,14 @@
 //! The values behind the locks.
 ghost use Rattle.std.specs.Prelude.{◌≡◌};
-ghost use Rattle.k_outcome.specs.k_process.Keeping.{BookKeeps, KernelKeeps, SharedKeeps};
-ghost use Rattle.k_outcome.specs.k_process.Standing.{ProcessStands};
+ghost use Rattle.k_still.specs.k_outcome.k_process.Keeping.{BookKeeps, KernelKeeps, SharedKeeps};
+ghost use Rattle.k_still.specs.k_outcome.k_process.Standing.{ProcessStands};
 ghost use Rattle.k_watch.specs.Shown.{IsShown};
 
 use crate::worlds::WorldName;
 use k_book::Book;
 use k_kernel::KernelCell;
-use k_outcome::Process;
 use k_shared::SharedCell;
+use k_still::Process;
 use k_watch::WatchPen;
 use std::marker::{Model, PhantomData};
 
@@ -27,7 +27,7 @@ impl<W: WorldName> Model for LockedProcess<W> {
 
     ghost Value = { HeapRecord };
 
-    ghost use Rattle.k_outcome.specs.k_process.Standing.{ProcessStands};
+    ghost use Rattle.k_still.specs.k_outcome.k_process.Standing.{ProcessStands};
 
     ghost view = { λ l. l.process.cell };
 
@@ -71,7 +71,7 @@ impl<W: WorldName> Model for LockedKernel<W> {
 
     ghost Value = { HoldingsValue };
 
-    ghost use Rattle.k_outcome.specs.k_process.Keeping.{KernelKeeps};
+    ghost use Rattle.k_still.specs.k_outcome.k_process.Keeping.{KernelKeeps};
 
     ghost view = { λ l. l.kernel };
 
@@ -110,7 +110,7 @@ impl<W: WorldName> Model for LockedShared<W> {
 
     ghost Value = { SharedRecord };
 
-    ghost use Rattle.k_outcome.specs.k_process.Keeping.{SharedKeeps};
+    ghost use Rattle.k_still.specs.k_outcome.k_process.Keeping.{SharedKeeps};
 
     ghost view = { λ l. l.shared };
 
@@ -151,7 +151,7 @@ impl<W: WorldName> Model for LockedBook<W> {
 
     ghost Value = { BookRecord };
 
-    ghost use Rattle.k_outcome.specs.k_process.Keeping.{BookKeeps};
+    ghost use Rattle.k_still.specs.k_outcome.k_process.Keeping.{BookKeeps};
     ghost use Rattle.k_watch.specs.Shown.{IsShown};
 
     ghost view = { λ l. l.book };

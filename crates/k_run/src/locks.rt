@@ -1,20 +1,18 @@
 //! All heaps of a run put behind their locks, and taken from behind them again.
 ghost use Rattle.std.specs.Prelude.{◌≡◌, IfOk, length, vec_capacity};
-ghost use Rattle.k_outcome.specs.k_process.Heaps.{value_of};
-ghost use Rattle.k_outcome.specs.k_process.Standing.{AllStand, HeapsStand, ProcessesStand};
+ghost use Rattle.k_still.specs.k_outcome.k_process.Heaps.{value_of};
+ghost use Rattle.k_still.specs.k_outcome.k_process.Standing.{AllStand, HeapsStand, ProcessesStand};
 ghost use Rattle.k_run.specs.Gathering.{CanGather, CanGatherShared};
-ghost use Rattle.k_run.specs.Rooms.{AreEndRooms, HasRoom};
+ghost use Rattle.k_still.specs.EndRooms.{AreEndRooms, HasRoom};
 ghost use Rattle.k_types.specs.Trace.{process_count};
 ghost use Rattle.k_watch.specs.Shown.{IsShown};
 
 use crate::locked::{LockedBook, LockedKernel, LockedProcess, LockedShared};
-use crate::placing::{in_order, place_process, place_shared};
-use crate::rooms::{EndRooms, empty_list};
 use crate::worlds::WorldName;
 use k_book::Book;
 use k_io::NoMemory;
-use k_outcome::{Heaps, Process};
 use k_shared::SharedCell;
+use k_still::{EndRooms, Heaps, Process, empty_list, in_order, place_process, place_shared};
 use k_watch::WatchPen;
 use std::alloc::Global;
 use std::sync::Mutex;

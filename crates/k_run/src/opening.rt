@@ -1,23 +1,20 @@
 //! A run that is put behind its locks.
 ghost use Rattle.std.specs.Prelude.{◌≡◌, ◌<◌, ◌^◌, [], ◌∷◌, IfOk, None, Some, length, vec_capacity};
-ghost use Rattle.k_outcome.specs.k_process.Heaps.{value_of};
-ghost use Rattle.k_outcome.specs.k_process.Standing.{AllStand};
+ghost use Rattle.k_still.specs.k_outcome.k_process.Heaps.{value_of};
+ghost use Rattle.k_still.specs.k_outcome.k_process.Standing.{AllStand};
 ghost use Rattle.k_still.specs.Opening.{IsSetupOf};
-ghost use Rattle.k_outcome.specs.Listed.{AreRoomsFor};
-ghost use Rattle.k_run.specs.Rooms.{AreEndRooms, HasRoom};
+ghost use Rattle.k_still.specs.k_outcome.Listed.{AreRoomsFor};
+ghost use Rattle.k_still.specs.EndRooms.{AreEndRooms, HasRoom};
 ghost use Rattle.k_run.specs.Worlds.{AreFree, HoldsRun};
 ghost use Rattle.k_watch.specs.Numbers.{numbers_of};
 ghost use Rattle.k_watch.specs.Shown.{IsShown};
 
 use crate::locks::{LockRooms, Locks, lock_all, lock_rooms};
-use crate::rooms::{EndRooms, end_rooms};
 use crate::running::MOST_WORKERS;
-use crate::still::Still;
 use crate::world::World;
 use crate::worlds::WorldName;
 use k_io::NoMemory;
-use k_outcome::ReportRooms;
-use k_still::FirstCells;
+use k_still::{EndRooms, FirstCells, ReportRooms, Still, end_rooms};
 use k_trace::Names;
 use k_turns::{TurnPass, Turns};
 use k_types::Setup;

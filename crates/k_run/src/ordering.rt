@@ -6,7 +6,7 @@
 //! book is held none is free.
 ghost use Rattle.std.specs.Prelude.{◌<◌};
 ghost use Rattle.k_complete.specs.Collecting.{Collects, HasMarkedCollection, HasSweptCollection, KernelCollects, KernelCollectsSwept};
-ghost use Rattle.k_outcome.specs.k_process.Worlds.{WorldValue};
+ghost use Rattle.k_still.specs.k_outcome.k_process.Worlds.{WorldValue};
 ghost use Rattle.k_types.specs.declared.names.CellPhase.TheVariants.{Begun, Marked};
 
 use crate::locked::{LockedBook, LockedKernel, LockedProcess, LockedShared};
@@ -14,7 +14,7 @@ use crate::locks::Locks;
 use crate::worlds::WorldName;
 use k_kernel::KernelCell;
 use k_mark::Swept;
-use k_outcome::Process;
+use k_still::Process;
 use k_types::Pid;
 use std::marker::PhantomData;
 use std::sync::{Mutex, MutexGuard, Wait};

@@ -1,7 +1,7 @@
 //! The next operation of a process whose lock is held.
 ghost use Rattle.std.specs.Prelude.{IfNone, IfSome, IsFalse, None, ◌<◌, ◌≡◌};
 ghost use Rattle.k_frame.specs.PartUpdates.{done_in};
-ghost use Rattle.k_outcome.specs.k_process.Standing.{ComesNext, IsNextOf};
+ghost use Rattle.k_still.specs.k_outcome.k_process.Standing.{ComesNext, IsNextOf};
 ghost use Rattle.k_complete.specs.Readiness.{IsOutside, IsReady, begins_or_ends};
 ghost use Rattle.k_run.specs.Running.{HasDoneBeside, HasDoneUnless, IsReadyFor};
 ghost use Rattle.k_types.specs.Trace.{process_count};
@@ -11,7 +11,7 @@ use crate::locked::{LockedBook, LockedKernel, LockedProcess, LockedShared};
 use crate::worlds::WorldName;
 use k_complete::{Reach, do_alone, do_inside, do_with_kernel, do_with_shared, publish_all, reach};
 use k_io::{Gate, GatePlace};
-use k_outcome::{Process, next};
+use k_still::{Process, next};
 use k_types::{Op, Pid};
 use k_watch::show;
 use std::sync::Wait;

@@ -1,7 +1,7 @@
 //! Operations that follow one another under one hold of the book.
 ghost use Rattle.std.specs.Prelude.{IsFalse};
 ghost use Rattle.k_complete.specs.Readiness.{begins_or_ends};
-ghost use Rattle.k_outcome.specs.k_process.Standing.{ComesNext};
+ghost use Rattle.k_still.specs.k_outcome.k_process.Standing.{ComesNext};
 
 use crate::locked::{LockedBook, LockedProcess};
 use crate::locks::Locks;

@@ -1,19 +1,18 @@
 //! A run whose heaps and book stand behind locks, and its end.
 ghost use Rattle.std.specs.Prelude.{Some, length, ◌≡◌};
-ghost use Rattle.k_outcome.specs.k_process.Heaps.{value_of};
-ghost use Rattle.k_outcome.specs.k_process.Over.{IsOutcome, cells_of};
-ghost use Rattle.k_outcome.specs.Ends.{EndsRun, journal_of};
-ghost use Rattle.k_run.specs.Rooms.{AreEndRooms};
+ghost use Rattle.k_still.specs.k_outcome.k_process.Heaps.{value_of};
+ghost use Rattle.k_still.specs.k_outcome.k_process.Over.{IsOutcome, cells_of};
+ghost use Rattle.k_still.specs.k_outcome.Ends.{EndsRun, journal_of};
+ghost use Rattle.k_still.specs.EndRooms.{AreEndRooms};
 ghost use Rattle.k_run.specs.Runs.{IsRunOf};
 ghost use Rattle.k_state.specs.Machines.{setup_of};
 ghost use Rattle.k_types.specs.Trace.{process_count};
 ghost use Rattle.k_watch.specs.Shown.{HasWatched, WasShown};
 
 use crate::locks::{Locks, unlock_all};
-use crate::rooms::EndRooms;
 use crate::worlds::WorldName;
 use k_complete::end_all;
-use k_outcome::{Heaps, Outcome, ReportRooms, outcome_of};
+use k_still::{EndRooms, Heaps, Outcome, ReportRooms, outcome_of};
 use k_trace::Names;
 use k_turns::{TurnPass, Turns};
 use k_types::Setup;

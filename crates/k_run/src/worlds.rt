@@ -6,7 +6,7 @@ use std::marker::Brand;
 pub trait WorldName {
     ghost use Rattle.std.specs.Prelude.{Option};
     ghost use Rattle.atomic_table.specs.Seated.{TableId};
-    ghost use Rattle.k_outcome.specs.k_process.Worlds.{WorldValue};
+    ghost use Rattle.k_still.specs.k_outcome.k_process.Worlds.{WorldValue};
 
     ghost world: { WorldValue };
 
@@ -15,7 +15,7 @@ pub trait WorldName {
 
 impl WorldName for Brand {
     ghost use Rattle.std.specs.Prelude.{None};
-    ghost use Rattle.k_outcome.specs.k_process.Worlds.{no_world};
+    ghost use Rattle.k_still.specs.k_outcome.k_process.Worlds.{no_world};
 
     ghost world = { no_world };
 

@@ -9,7 +9,7 @@ use Rattle.k_run.specs.Opening.{IsSetupOf}
 use Rattle.k_run.specs.k_outcome.Ends.{EndValue}
 use Rattle.k_run.specs.k_outcome.Listed.{AreRoomsFor}
 use Rattle.k_trace.specs.Named.{NamedTrace}
-use Rattle.k_run.specs.declared.still.Still.{Still}
+use Rattle.k_run.specs.Still.{Still}
 use Rattle.k_run.specs.Opened.{named_in, trace_in, world_in}
 use Rattle.k_run.specs.Runs.{IsRunOf}
 use Rattle.k_run.specs.Stills.{IsOpenedStill}

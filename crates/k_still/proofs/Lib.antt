@@ -7,3 +7,9 @@ pub mod Stands
 pub mod FirstBook
 pub mod Begun
 pub mod Preparation
+pub mod Told
+pub mod Reported
+pub mod Places
+pub mod Gathered
+pub use Rattle.k_outcome.proofs.OverByMeeting
+pub use Rattle.k_outcome.proofs.Setups

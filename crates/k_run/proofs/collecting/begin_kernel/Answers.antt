@@ -2,7 +2,7 @@ use Rattle.std.proofs.Common.{sym, subst}
 use Rattle.k_types.specs.declared.op.Op.TheVariants.{KCollect}
 use Rattle.k_heap.specs.Heaps.{HeapRecord}
 use Rattle.k_complete.proofs.Since.{next_since}
-use Rattle.k_outcome.specs.k_process.Standing.{ComesNext, HasDone}
+use Rattle.k_still.specs.k_outcome.k_process.Standing.{ComesNext, HasDone}
 use Rattle.k_run.specs.Running.{WaitsToCollect}
 use Rattle.k_run.proofs.Stepped.{done_after, may_wait, next_settled, published_left}
 use Rattle.k_run.proofs.Shows.{one_grows, published_grows}

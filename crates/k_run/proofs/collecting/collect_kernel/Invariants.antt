@@ -1,6 +1,6 @@
 use Rattle.k_types.specs.declared.op.Op.TheVariants.{KCollect}
 use Rattle.k_complete.specs.Collecting.{HasSameLeft}
-use Rattle.k_outcome.specs.k_process.Standing.{ComesNext}
+use Rattle.k_still.specs.k_outcome.k_process.Standing.{ComesNext}
 use Rattle.k_run.proofs.collecting.collect_kernel.Given as goal
 
 abbrev pub invariant-loop : goal.invariant-loop

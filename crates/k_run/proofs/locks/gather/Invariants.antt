@@ -1,6 +1,6 @@
 use Rattle.std.proofs.Common.{◌≡◌, ◌+◌, length}
 use Rattle.k_types.specs.Trace.{process_count}
-use Rattle.k_run.specs.Places.{ArePlaces, filled}
+use Rattle.k_still.specs.Places.{ArePlaces, filled}
 use Rattle.k_run.proofs.locks.gather.Given as goal
 
 abbrev pub ghost-place_process : goal.ghost-place_process

@@ -1,6 +1,6 @@
 use Rattle.std.proofs.Common.{refl, sym, subst}
-use Rattle.k_run.specs.Places.{ArePlacesShared}
-use Rattle.k_run.proofs.Gathered.{all_free, free_shared_places, gathered_shared}
+use Rattle.k_still.specs.Places.{ArePlacesShared}
+use Rattle.k_still.proofs.Gathered.{all_free, free_shared_places, gathered_shared}
 use Rattle.k_run.proofs.locks.gather_shared.Goals as goal
 
 pub loop-lock-init : goal.loop-lock-init

@@ -1,5 +1,5 @@
 use Rattle.std.proofs.Common.{◌≡◌, ◌+◌, length}
-use Rattle.k_run.specs.Places.{ArePlacesShared, filled}
+use Rattle.k_still.specs.Places.{ArePlacesShared, filled}
 use Rattle.k_run.proofs.locks.gather_shared.Given as goal
 
 abbrev pub ghost-place_shared : goal.ghost-place_shared

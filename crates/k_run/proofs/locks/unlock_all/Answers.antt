@@ -1,6 +1,6 @@
 use Rattle.std.proofs.Common.{sym, ◌∙◌, subst}
 use Rattle.k_book.specs.Books.{BookRecord}
-use Rattle.k_outcome.specs.k_process.Keeping.{BookKeeps}
+use Rattle.k_still.specs.k_outcome.k_process.Keeping.{BookKeeps}
 use Rattle.k_watch.specs.Shown.{IsShown}
 use Rattle.k_run.proofs.locks.unlock_all.Goals as goal
 

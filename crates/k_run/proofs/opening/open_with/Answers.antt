@@ -1,5 +1,5 @@
 use Rattle.std.proofs.Common.{◌≡◌, length, subst, arith, vec_capacity}
-use Rattle.k_run.specs.Rooms.{AreEndRooms, HasRoom}
+use Rattle.k_still.specs.EndRooms.{AreEndRooms, HasRoom}
 use Rattle.k_run.proofs.Opened.{few_processes, some_processes}
 use Rattle.k_run.proofs.opening.open_with.Goals as goal
 

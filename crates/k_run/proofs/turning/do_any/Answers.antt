@@ -1,7 +1,7 @@
 use Rattle.std.proofs.Common.{subst}
 use Rattle.k_types.specs.declared.op.Op.TheVariants.{Collect, Exit, KCollect}
 use Rattle.k_complete.proofs.Since.{steps_else}
-use Rattle.k_outcome.specs.k_process.Standing.{ComesNext}
+use Rattle.k_still.specs.k_outcome.k_process.Standing.{ComesNext}
 use Rattle.k_run.proofs.Stepped.{turn_of}
 use Rattle.k_run.proofs.turning.do_any.Goals as goal
 

@@ -1,4 +1,4 @@
-use Rattle.k_run.specs.Opened.{named_in}
+use Rattle.k_still.specs.Opened.{named_in}
 use Rattle.k_run.proofs.whole.replay_trace.Given as goal
 
 abbrev pub ghost-replay : goal.ghost-replay

@@ -1,5 +1,5 @@
 use Rattle.std.proofs.Common.{None}
-use Rattle.k_run.specs.Opened.{world_in}
+use Rattle.k_still.specs.Opened.{world_in}
 use Rattle.k_run.proofs.whole.run_trace.Given as goal
 
 abbrev pub ghosts-run_still : goal.ghosts-run_still

@@ -1,7 +1,7 @@
 use Rattle.std.proofs.Common.{refl}
 use Rattle.k_state.specs.Machines.{setup_of}
-use Rattle.k_outcome.specs.k_process.Heaps.{value_of}
-use Rattle.k_outcome.proofs.OverByMeeting.{met_ends}
+use Rattle.k_still.specs.k_outcome.k_process.Heaps.{value_of}
+use Rattle.k_still.proofs.OverByMeeting.{met_ends}
 use Rattle.k_watch.proofs.ShownOn.{was_shown}
 use Rattle.k_run.proofs.world.end_locked.Goals as goal
 

@@ -2,9 +2,9 @@ use Rattle.std.proofs.Common.{◌≡◌, [], Some, Option, ap, sym, subst}
 use Rattle.atomic_table.specs.Seated.{TableId}
 use Rattle.k_types.specs.Trace.{trace_of}
 use Rattle.k_trace.specs.Named.{NamedTrace}
-use Rattle.k_outcome.specs.k_process.Heaps.{value_of}
-use Rattle.k_outcome.specs.k_process.Over.{IsOutcome, cells_of}
-use Rattle.k_outcome.specs.Ends.{EndValue, journal_of}
+use Rattle.k_still.specs.k_outcome.k_process.Heaps.{value_of}
+use Rattle.k_still.specs.k_outcome.k_process.Over.{IsOutcome, cells_of}
+use Rattle.k_still.specs.k_outcome.Ends.{EndValue, journal_of}
 use Rattle.k_watch.specs.Shown.{HasWatched, WasShown}
 use Rattle.k_watch.specs.Values.{PenValue}
 use Rattle.k_run.specs.Runs.{IsRunOf}

@@ -1,7 +1,7 @@
 use Rattle.std.proofs.Common.{subst}
 use Rattle.k_types.specs.declared.op.Op.TheVariants.{Collect}
 use Rattle.k_heap.specs.Heaps.{HeapRecord}
-use Rattle.k_outcome.specs.k_process.Standing.{HasDone}
+use Rattle.k_still.specs.k_outcome.k_process.Standing.{HasDone}
 use Rattle.k_run.proofs.Stepped.{done_before}
 use Rattle.k_run.proofs.locked.LockedProcess.collect.Goals as goal
 

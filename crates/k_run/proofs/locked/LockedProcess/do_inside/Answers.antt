@@ -1,6 +1,6 @@
 use Rattle.std.proofs.Common.{sym, subst}
 use Rattle.k_heap.specs.Heaps.{HeapRecord}
-use Rattle.k_outcome.specs.k_process.Standing.{ComesNext}
+use Rattle.k_still.specs.k_outcome.k_process.Standing.{ComesNext}
 use Rattle.k_run.specs.Running.{HasDoneUnless}
 use Rattle.k_run.proofs.Stepped.{inside_unless}
 use Rattle.k_run.proofs.locked.LockedProcess.do_inside.Goals as goal

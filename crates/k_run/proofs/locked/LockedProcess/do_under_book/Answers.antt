@@ -7,7 +7,7 @@ use Rattle.k_moves.specs.Shown.{idle_part}
 use Rattle.k_moves.proofs.Killing.{ends_by}
 use Rattle.k_complete.specs.Readiness.{IsOutside}
 use Rattle.k_complete.proofs.Since.{can_reach, due, next_since, ready_since}
-use Rattle.k_outcome.specs.k_process.Standing.{HasDone}
+use Rattle.k_still.specs.k_outcome.k_process.Standing.{HasDone}
 use Rattle.k_run.specs.Running.{IsReadyFor}
 use Rattle.k_run.proofs.Stepped.{done_after, published_left, ready_beside}
 use Rattle.k_run.proofs.Shows.{operation_grows, published_grows}

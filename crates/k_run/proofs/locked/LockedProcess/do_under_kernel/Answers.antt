@@ -5,7 +5,7 @@ use Rattle.k_run.specs.Running.{HasDoneBeside}
 use Rattle.k_run.proofs.Stepped.{none_reached, not_done, shared_not_kernel, two_reached, was_done}
 use Rattle.k_heap.specs.Heaps.{HeapRecord}
 use Rattle.k_complete.specs.Readiness.{IsReady}
-use Rattle.k_outcome.specs.k_process.Standing.{ComesNext}
+use Rattle.k_still.specs.k_outcome.k_process.Standing.{ComesNext}
 use Rattle.k_complete.proofs.Since.{can_reach, due}
 use Rattle.k_run.proofs.Shows.{operation_grows}
 use Rattle.k_watch.proofs.ShownOn.{was_shown}

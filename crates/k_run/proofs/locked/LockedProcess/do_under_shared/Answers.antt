@@ -4,7 +4,7 @@ use Rattle.k_book.specs.Books.{BookRecord}
 use Rattle.k_run.specs.Running.{HasDoneBeside}
 use Rattle.k_run.proofs.Stepped.{kernel_not_shared, none_reached, not_done, two_reached}
 use Rattle.k_heap.specs.Heaps.{HeapRecord}
-use Rattle.k_outcome.specs.k_process.Standing.{ComesNext}
+use Rattle.k_still.specs.k_outcome.k_process.Standing.{ComesNext}
 use Rattle.k_complete.proofs.Since.{can_reach}
 use Rattle.k_run.proofs.Shows.{operation_grows}
 use Rattle.k_watch.proofs.ShownOn.{was_shown}

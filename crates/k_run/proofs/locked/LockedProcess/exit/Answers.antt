@@ -1,7 +1,7 @@
 use Rattle.std.proofs.Common.{sym, subst}
 use Rattle.k_types.specs.declared.op.Op.TheVariants.{Exit}
 use Rattle.k_heap.specs.Heaps.{HeapRecord}
-use Rattle.k_outcome.specs.k_process.Standing.{ComesNext, HasDone}
+use Rattle.k_still.specs.k_outcome.k_process.Standing.{ComesNext, HasDone}
 use Rattle.k_run.proofs.Stepped.{done_after, next_settled, published_left}
 use Rattle.k_run.proofs.Shows.{operation_grows, published_grows}
 use Rattle.k_watch.proofs.ShownOn.{was_shown}

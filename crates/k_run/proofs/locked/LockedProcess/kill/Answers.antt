@@ -2,7 +2,7 @@ use Rattle.std.proofs.Common.{ap, ◌∙◌, sym, subst}
 use Rattle.k_types.specs.declared.op.Op.TheVariants.{Kill}
 use Rattle.k_heap.specs.Heaps.{HeapRecord}
 use Rattle.k_complete.specs.Collecting.{HasSameLeft}
-use Rattle.k_outcome.specs.k_process.Standing.{ComesNext, HasDone}
+use Rattle.k_still.specs.k_outcome.k_process.Standing.{ComesNext, HasDone}
 use Rattle.k_run.proofs.Shows.{kill_grows}
 use Rattle.k_watch.proofs.ShownOn.{was_shown}
 use Rattle.k_run.proofs.locked.LockedProcess.kill.Goals as goal

@@ -3,14 +3,14 @@ use Rattle.std.proofs.Common.{◌≡◌, ◌⊎◌, ◌+◌, ℕ, refl, sym, ap,
 use Rattle.std.proofs.lemmas.List.{length-map, length-replicate}
 use Rattle.k_types.specs.Trace.{process_count}
 use Rattle.k_shared.specs.SharedHeaps.{SharedRecord}
-use Rattle.k_outcome.specs.k_process.declared.process.Process.{Process}
+use Rattle.k_process.specs.declared.process.Process.{Process}
 use Rattle.k_book.specs.Books.{BookRecord}
-use Rattle.k_outcome.specs.k_process.Keeping.{SharedKeeps}
-use Rattle.k_run.specs.Places.{ArePlaces, ArePlacesShared, HasPlaced, HasPlacedShared, filled}
-use Rattle.k_outcome.specs.k_process.Standing.{HeapsStand, ProcessStands, ProcessesStand}
-use Rattle.k_outcome.specs.k_process.Worlds.{WorldValue}
-use Rattle.k_outcome.proofs.Written.{get_set_cases}
-use Rattle.k_run.proofs.Places.{filled_none, filled_set, get_mapped_some, none_there}
+use Rattle.k_process.specs.Keeping.{SharedKeeps}
+use Rattle.k_still.specs.Places.{ArePlaces, ArePlacesShared, HasPlaced, HasPlacedShared, filled}
+use Rattle.k_process.specs.Standing.{HeapsStand, ProcessStands, ProcessesStand}
+use Rattle.k_process.specs.Worlds.{WorldValue}
+use Rattle.k_process.proofs.Written.{get_set_cases}
+use Rattle.k_still.proofs.Places.{filled_none, filled_set, get_mapped_some, none_there}
 
 -- what stands in a place after the free one was taken
 pub taken_cases : {A : Type 0} (xs : List (Option A)) (n k : ℕ) (x y : A) → slice_get (set (set xs n None) n (Some x)) k ≡ Some (Some y) → ((k ≡ n) × (x ≡ y)) ⊎ (slice_get xs k ≡ Some (Some y))

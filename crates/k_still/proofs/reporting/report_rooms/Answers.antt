@@ -1,7 +1,7 @@
 use Rattle.std.proofs.Common.{ap, ◌∙◌, ◌++◌}
 use Rattle.k_trace.specs.Meaning.{meaning_of}
-use Rattle.k_run.proofs.Reported.{rooms_added}
-use Rattle.k_run.proofs.reporting.report_rooms.Goals as goal
+use Rattle.k_still.proofs.Reported.{rooms_added}
+use Rattle.k_still.proofs.reporting.report_rooms.Goals as goal
 
 pub returns : goal.returns
 returns c =

@@ -5,9 +5,9 @@ ghost use Rattle.k_outcome.specs.Listed.{AreRoomsFor};
 ghost use Rattle.k_trace.specs.Meaning.{meaning_of};
 ghost use Rattle.k_trace.specs.Rules.{IsTrace};
 
+use crate::rooms::{all_stores, shared_rooms, stores_in};
 use k_io::NoMemory;
 use k_outcome::ReportRooms;
-use k_still::{all_stores, shared_rooms, stores_in};
 use k_trace::Trace;
 use std::alloc::Global;
 

@@ -2,8 +2,8 @@ use Rattle.std.proofs.Common.{length, map, Some, ◌∷◌, [], ◌++◌, sym, a
 use Rattle.std.proofs.lemmas.Iterator.Adapters.{YieldsList-from_vec}
 use Rattle.std.proofs.lemmas.Iterator.Consumers.{YieldsList-end, YieldsList-turn}
 use Rattle.std.proofs.lemmas.List.{length-map}
-use Rattle.k_run.proofs.Places.{mapped_all, mapped_push, none_free}
-use Rattle.k_run.proofs.placing.in_order.Goals as goal
+use Rattle.k_still.proofs.Places.{mapped_all, mapped_push, none_free}
+use Rattle.k_still.proofs.placing.in_order.Goals as goal
 
 pub loop-place-init : goal.loop-place-init
 loop-place-init g c = record { taken = ap (λ xs. map Some xs) c.requires.empty; room = c.requires.room }

@@ -3,8 +3,8 @@ use Rattle.std.specs.Prelude.{map}
 use Rattle.k_types.specs.declared.names.Pid.{Pid}
 use Rattle.k_types.specs.Trace.{Trace, trace_of}
 use Rattle.k_trace.specs.Named.{NamedTrace}
-use Rattle.k_outcome.specs.k_process.declared.process.Process.{Process}
-use Rattle.k_outcome.specs.k_process.Worlds.{WorldValue}
+use Rattle.k_process.specs.declared.process.Process.{Process}
+use Rattle.k_process.specs.Worlds.{WorldValue}
 use Rattle.k_still.specs.declared.first.FirstCells.{FirstCells}
 
 -- the trace of the cells' setup, of the operations of their processes and of their order

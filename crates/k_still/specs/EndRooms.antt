@@ -1,6 +1,6 @@
 -- The memory with which a run is ended.
 use Rattle.std.specs.Prelude.{◌≡◌, ℕ, ◌≤◌, List, None, [], replicate, vec_capacity}
-use Rattle.k_run.specs.declared.rooms.EndRooms.{EndRooms}
+use Rattle.k_still.specs.declared.ending.EndRooms.{EndRooms}
 
 -- there are so many free places for processes and for shared heaps, and empty lists with room for them
 pub record AreEndRooms (process_count shared_count : ℕ) (rooms : EndRooms) : Type 0 where

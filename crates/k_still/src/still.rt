@@ -1,22 +1,22 @@
 //! A run before its first event.
 ghost use Rattle.std.specs.Prelude.{◌≡◌, IfOk};
-ghost use Rattle.k_run.specs.Stills.{IsOpenedStill};
+ghost use Rattle.k_still.specs.Stills.{IsOpenedStill};
 ghost use Rattle.k_trace.specs.Meaning.{meaning_of};
 ghost use Rattle.k_trace.specs.Rules.{IsTrace};
 
+use crate::first::{FirstCells, first_cells};
 use crate::reporting::report_rooms;
 use k_book::Book;
 use k_io::NoMemory;
 use k_outcome::ReportRooms;
-use k_still::{FirstCells, first_cells};
 use k_trace::Trace;
 use std::alloc::Global;
 
 /// A run before its first event: all cells and the book, not yet behind locks, and room for what a report lists of the end.
 #[derive(Drop)]
 pub struct Still {
-    pub(crate) cells: FirstCells,
-    pub(crate) rooms: ReportRooms,
+    pub cells: FirstCells,
+    pub rooms: ReportRooms,
 }
 
 impl Still {

@@ -1,7 +1,7 @@
 -- Places that fill up.
 use Rattle.std.proofs.Common.{◌≡◌, ℕ, zero, suc, ◌+◌, ◌<◌, ◌≤◌, List, [], ◌∷◌, ◌++◌, length, map, set, get_or, Some, None, Option, slice_get, replicate, refl, sym, ap, ◌∙◌, subst, arith}
 use Rattle.std.proofs.lemmas.Option.{slice_get_read}
-use Rattle.k_run.specs.Places.{filled, one_if_some}
+use Rattle.k_still.specs.Places.{filled, one_if_some}
 
 -- a place that was free is taken
 pub filled_set : {A : Type 0} (xs : List (Option A)) (k : ℕ) (x : Option A) (v : A) → slice_get xs k ≡ Some None → filled (set (set xs k x) k (Some v)) ≡ filled xs + 1

@@ -1,5 +1,5 @@
 use Rattle.std.proofs.Common.{Some, map, length, vec_capacity, ◌≡◌, ◌≤◌}
-use Rattle.k_run.proofs.placing.in_order.Given as goal
+use Rattle.k_still.proofs.placing.in_order.Given as goal
 
 abbrev pub invariant-loop-place : goal.invariant-loop-place
 invariant-loop-place g l = record {

@@ -3,10 +3,10 @@ use Rattle.std.specs.Prelude.{◌≡◌, ℕ, ◌+◌, List, [], ◌∷◌, Opti
 use Rattle.k_types.specs.Trace.{process_count}
 use Rattle.k_book.specs.Books.{BookRecord}
 use Rattle.k_shared.specs.SharedHeaps.{SharedRecord}
-use Rattle.k_outcome.specs.k_process.Keeping.{SharedKeeps}
-use Rattle.k_outcome.specs.k_process.declared.process.Process.{Process}
-use Rattle.k_outcome.specs.k_process.Standing.{ProcessStands}
-use Rattle.k_outcome.specs.k_process.Worlds.{WorldValue}
+use Rattle.k_process.specs.Keeping.{SharedKeeps}
+use Rattle.k_process.specs.declared.process.Process.{Process}
+use Rattle.k_process.specs.Standing.{ProcessStands}
+use Rattle.k_process.specs.Worlds.{WorldValue}
 
 -- 1 where something is there
 abbrev pub one_if_some : {A : Type 0} → Option A → ℕ

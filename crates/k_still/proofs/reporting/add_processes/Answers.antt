@@ -1,8 +1,8 @@
 use Rattle.std.proofs.Common.{ap, ◌∙◌, arith}
 use Rattle.k_bounds.specs.Counts.{stores_in}
 use Rattle.k_still.proofs.Passes.{own_short}
-use Rattle.k_run.proofs.Reported.{all_processes_added, one_process_added}
-use Rattle.k_run.proofs.reporting.add_processes.Goals as goal
+use Rattle.k_still.proofs.Reported.{all_processes_added, one_process_added}
+use Rattle.k_still.proofs.reporting.add_processes.Goals as goal
 
 pub stores_in-requires : goal.stores_in-requires
 stores_in-requires c =

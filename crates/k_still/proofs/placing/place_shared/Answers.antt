@@ -2,10 +2,10 @@ use Rattle.std.proofs.Common.{sym, ap, ◌∙◌, subst, set, Option, Some, None
 use Rattle.k_types.specs.declared.names.SharedId.{SharedId}
 use Rattle.k_tie.specs.Values.{NoteValue}
 use Rattle.k_shared.specs.SharedHeaps.{SharedRecord}
-use Rattle.k_run.specs.Places.{HasPlacedShared}
-use Rattle.k_run.proofs.Gathered.{one_shared_number, placed_shared}
-use Rattle.k_outcome.proofs.Looped.{found_at}
-use Rattle.k_run.proofs.placing.place_shared.Goals as goal
+use Rattle.k_still.specs.Places.{HasPlacedShared}
+use Rattle.k_still.proofs.Gathered.{one_shared_number, placed_shared}
+use Rattle.k_process.proofs.Looped.{found_at}
+use Rattle.k_still.proofs.placing.place_shared.Goals as goal
 
 pub apart-requires : goal.apart-requires
 apart-requires g c =

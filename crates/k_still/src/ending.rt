@@ -1,19 +1,19 @@
 //! The memory with which a run is ended.
 ghost use Rattle.std.specs.Prelude.{◌≡◌, ◌≤◌, IfOk, None, [], replicate, vec_capacity};
-ghost use Rattle.k_run.specs.Rooms.{AreEndRooms};
+ghost use Rattle.k_still.specs.EndRooms.{AreEndRooms};
 
 use k_io::NoMemory;
-use k_outcome::Process;
+use k_process::Process;
 use k_shared::SharedCell;
 use std::alloc::Global;
 
 /// Places for the cells at the end, all free, and lists with room for them, so that the end takes no memory.
 #[derive(Drop)]
 pub struct EndRooms {
-    pub(crate) process_places: Vec<Option<Process>>,
-    pub(crate) shared_places: Vec<Option<SharedCell>>,
-    pub(crate) processes: Vec<Process>,
-    pub(crate) shared: Vec<SharedCell>,
+    pub process_places: Vec<Option<Process>>,
+    pub shared_places: Vec<Option<SharedCell>>,
+    pub processes: Vec<Process>,
+    pub shared: Vec<SharedCell>,
 }
 
 /// So many free places.
@@ -28,18 +28,14 @@ fn free_places<T: Drop>(alloc: Global, count: usize) -> Result<Vec<Option<T>>, N
 }
 
 /// An empty list with room for so many.
-pub(crate) fn empty_list<T: Drop>(alloc: Global, count: usize) -> Result<Vec<T>, NoMemory>
+pub fn empty_list<T: Drop>(alloc: Global, count: usize) -> Result<Vec<T>, NoMemory>
     ensures { IfOk result (λ list. (list.items ≡ []) × (count ≤ vec_capacity list)) }
 {
     Ok(Vec::with_capacity(alloc, count)?)
 }
 
 /// The rooms for so many processes and shared heaps.
-pub(crate) fn end_rooms(
-    alloc: Global,
-    processes: usize,
-    shared: usize,
-) -> Result<EndRooms, NoMemory>
+pub fn end_rooms(alloc: Global, processes: usize, shared: usize) -> Result<EndRooms, NoMemory>
     ensures { IfOk result (λ rooms. AreEndRooms processes shared rooms) }
 {
     Ok(EndRooms {

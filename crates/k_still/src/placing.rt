@@ -1,18 +1,14 @@
 //! Cells that find the places of their own numbers.
 ghost use Rattle.std.specs.Prelude.{Some, [], map, length, vec_capacity, ◌≡◌, ◌≤◌};
-ghost use Rattle.k_run.specs.Places.{AreFilled, CanPlace, CanPlaceShared, HasPlaced, HasPlacedShared};
-ghost use Rattle.k_outcome.specs.k_process.Worlds.{WorldValue};
+ghost use Rattle.k_still.specs.Places.{AreFilled, CanPlace, CanPlaceShared, HasPlaced, HasPlacedShared};
+ghost use Rattle.k_process.specs.Worlds.{WorldValue};
 
 use k_book::Book;
-use k_outcome::Process;
+use k_process::Process;
 use k_shared::SharedCell;
 
 /// Puts the process in the place of its number. No other is there, since no two notes are of one cell.
-pub(crate) fn place_process(
-    places: &mut Vec<Option<Process>>,
-    book: &mut Book,
-    mut process: Process,
-)
+pub fn place_process(places: &mut Vec<Option<Process>>, book: &mut Book, mut process: Process)
     ghost world: { WorldValue }
     requires { CanPlace world places.old.items book.old process }
     ensures { HasPlaced world places.old.items places.new.items book.old book.new }
@@ -28,11 +24,7 @@ pub(crate) fn place_process(
 }
 
 /// Puts the cell of a shared heap in the place of its number.
-pub(crate) fn place_shared(
-    places: &mut Vec<Option<SharedCell>>,
-    book: &mut Book,
-    mut shared: SharedCell,
-)
+pub fn place_shared(places: &mut Vec<Option<SharedCell>>, book: &mut Book, mut shared: SharedCell)
     ghost world: { WorldValue }
     requires { CanPlaceShared world places.old.items book.old shared }
     ensures { HasPlacedShared world places.old.items places.new.items book.old book.new }
@@ -48,7 +40,7 @@ pub(crate) fn place_shared(
 }
 
 /// What stands in the places, each of which is taken, in order. It takes no memory: `into` has room.
-pub(crate) fn in_order<T: Drop>(places: Vec<Option<T>>, mut into: Vec<T>) -> Vec<T>
+pub fn in_order<T: Drop>(places: Vec<Option<T>>, mut into: Vec<T>) -> Vec<T>
     requires filled { AreFilled places.items }
     requires empty { into.items ≡ [] }
     requires room { length places.items ≤ vec_capacity into }

@@ -1,11 +1,11 @@
 use Rattle.std.proofs.Common.{sym, ap, ◌∙◌, subst, set, Option, Some, None}
 use Rattle.k_types.specs.declared.names.Pid.{Pid}
 use Rattle.k_tie.specs.Values.{NoteValue}
-use Rattle.k_outcome.specs.k_process.declared.process.Process.{Process}
-use Rattle.k_run.specs.Places.{HasPlaced}
-use Rattle.k_run.proofs.Gathered.{one_number, placed_process}
-use Rattle.k_outcome.proofs.Looped.{found_at}
-use Rattle.k_run.proofs.placing.place_process.Goals as goal
+use Rattle.k_process.specs.declared.process.Process.{Process}
+use Rattle.k_still.specs.Places.{HasPlaced}
+use Rattle.k_still.proofs.Gathered.{one_number, placed_process}
+use Rattle.k_process.proofs.Looped.{found_at}
+use Rattle.k_still.proofs.placing.place_process.Goals as goal
 
 pub apart-requires : goal.apart-requires
 apart-requires g c =
