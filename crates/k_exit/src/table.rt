@@ -16,7 +16,7 @@ use std::marker::Model;
 
 /// What a call takes out.
 #[derive(Clone, Copy)]
-enum Wanted {
+pub(crate) enum Wanted {
     Any,
     Unmarked,
     Into(Seg),
@@ -25,11 +25,11 @@ enum Wanted {
 /// The exit items of one heap: distinct targets, each marked or not, in a table of a fixed room.
 /// Source: KaffeOS paper, on exit items; the hash chains are own.
 pub struct ExitTable {
-    items: Vec<Item>,
-    heads: Vec<u32>,
+    pub(crate) items: Vec<Item>,
+    pub(crate) heads: Vec<u32>,
     // No item from place `from` on is wanted, so that the next call need not look there again.
-    wanted: Wanted,
-    from: usize,
+    pub(crate) wanted: Wanted,
+    pub(crate) from: usize,
 }
 
 impl Drop for ExitTable {
