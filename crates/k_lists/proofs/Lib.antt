@@ -5,3 +5,4 @@ pub mod Apart
 pub mod Steps
 pub mod Pushes
 pub mod Removes
+pub mod Grown

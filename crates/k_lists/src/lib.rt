@@ -1,11 +1,13 @@
 //! Lists of numbers that no two lists share, linked by index.
 //!
 //! A [`Lists`] is so many lists over the numbers below a room; a number stands in one list at most,
-//! and there once. Each call but [`Lists::make`] takes constant time and no memory.
+//! and there once. Only [`Lists::make`] takes memory. Each call but that and
+//! [`Lists::move_into`] takes constant time.
 //!
 //! The crate stands on `k_io` for want of memory.
 #![tactic(auto)]
 
+mod growing;
 mod lists;
 
 pub use lists::Lists;

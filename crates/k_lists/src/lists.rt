@@ -9,17 +9,17 @@ use std::marker::Model;
 
 /// The neighbours of a number in its list: one more than each, 0 where there is none.
 #[derive(Clone, Copy)]
-struct Links {
-    prev: u32,
-    next: u32,
+pub(crate) struct Links {
+    pub(crate) prev: u32,
+    pub(crate) next: u32,
 }
 
 /// So many lists of the numbers below a room, no number in two of them.
 #[derive(Drop)]
 pub struct Lists {
-    links: Vec<Links>,
+    pub(crate) links: Vec<Links>,
     // One more than the first number of each list; 0 where it is empty.
-    heads: Vec<u32>,
+    pub(crate) heads: Vec<u32>,
 }
 
 impl Model for Lists {
