@@ -5,14 +5,13 @@ use Rattle.std.proofs.lemmas.List.{drop-append-le, drop-drop, length-drop}
 use Rattle.circular_buffer.specs.Buffer.{keep_last}
 
 module _ {A : Type 0} where
-  -- the last of the last and of one more are those of the longer list
-  pub kept_on : (k : ℕ) (xs : List A) (x : A) → keep_last k (keep_last k xs ++ x ∷ []) ≡ keep_last k (xs ++ x ∷ [])
-  kept_on k xs x =
-      let gone = length xs - k in
-      let left = length-drop gone xs in
-      let less = length (drop gone xs ++ x ∷ []) - k in
-      let enough : gone + less ≡ length (xs ++ x ∷ []) - k = omega (arith, left, length-append (drop gone xs) (x ∷ []), length-append xs (x ∷ [])) in
-      ap (drop less) (sym (drop-append-le gone xs (x ∷ []) (omega arith))) ∙ drop-drop less gone (xs ++ x ∷ []) ∙ ap (λ n. drop n (xs ++ x ∷ [])) enough
+  -- some of the first are left out, and of what is held and one more the last ones are kept: those of the longer list
+  pub held_on : (k gone : ℕ) (xs items : List A) (x : A) → items ≡ drop gone xs → gone ≤ length xs →
+      keep_last k (items ++ x ∷ []) ≡ drop (gone + (length items + 1 - k)) (xs ++ x ∷ [])
+  held_on k gone xs items x is low =
+      let less = length items + 1 - k in
+      ap (λ n. drop (n - k) (items ++ x ∷ [])) (length-append items (x ∷ [])) ∙ ap (λ ys. drop less (ys ++ x ∷ [])) is
+      ∙ ap (drop less) (sym (drop-append-le gone xs (x ∷ []) low)) ∙ drop-drop less gone (xs ++ x ∷ [])
 
   -- what is found in a list past those that are left out
   at_after : (k : ℕ) (xs : List A) (i j : ℕ) → j ≡ k + i → slice_get (drop k xs) i ≡ slice_get xs j
@@ -21,9 +20,9 @@ module _ {A : Type 0} where
   at_after (suc k) (x ∷ xs) i zero e = absurd (omega arith)
   at_after (suc k) (x ∷ xs) i (suc j) e = at_after k xs i j (omega arith)
 
-  -- one of the last stands among them by its number less those that are gone
-  pub kept_at : (k number : ℕ) (xs : List A) → number < length xs → length xs ≤ number + k →
-      slice_get (keep_last k xs) (number - (length xs - length (keep_last k xs))) ≡ slice_get xs number
-  kept_at k number xs there late =
-      let gone = length xs - k in
-      at_after gone xs (number - (length xs - length (drop gone xs))) number (omega (arith, length-drop gone xs))
+  -- one of those that are held stands among them by its number less those that are gone
+  pub held_at : (gone number : ℕ) (xs items : List A) → items ≡ drop gone xs → gone ≤ number → number < length xs →
+      slice_get items (number - (length xs - length items)) ≡ slice_get xs number
+  held_at gone number xs items is late there =
+      let left : length items ≡ length xs - gone = ap (λ ys. length ys) is ∙ length-drop gone xs in
+      ap (λ ys. slice_get ys (number - (length xs - length items))) is ∙ at_after gone xs (number - (length xs - length items)) number (omega (arith, left, late, there))

@@ -1,7 +1,7 @@
 -- What contracts see of the journal that the book keeps.
-use Rattle.std.specs.Prelude.{◌≡◌, ℕ, ◌<◌, ◌≤◌, ◌^◌, [], ◌∷◌, ◌++◌, length}
+use Rattle.std.specs.Prelude.{◌≡◌, ℕ, ◌-◌, ◌<◌, ◌≤◌, ◌^◌, [], ◌∷◌, ◌++◌, drop, length}
 use Rattle.atomic_table.specs.Seated.{TableId}
-use Rattle.circular_buffer.specs.Buffer.{Buffer, keep_last}
+use Rattle.circular_buffer.specs.Buffer.{Buffer}
 use Rattle.k_types.specs.declared.event.Event.{Event}
 use Rattle.k_tie.specs.Values.{JournalValue}
 use Rattle.k_journal.specs.Objects.{objects_told}
@@ -20,12 +20,17 @@ with_event event journal = record journal { list = journal.list ++ event ∷ [] 
 abbrev pub with_touch : ℕ → JournalValue → JournalValue
 with_touch cell journal = record journal { touches = cell ∷ journal.touches }
 
--- the seat is of that table, the count is that of the events that it knows, for which there is room, the objects are counted by them, and the
--- last of them are kept. There are fewer than 2^55, so that the bytes of two heaps with as many objects fit 64 bits
-pub record AreKept (table : TableId) (journal : JournalValue) (count objects room : ℕ) (last : Buffer Event) : Type 0 where
+-- the seat is of that table, the count is that of the events that it knows, for which there is room, the objects are counted by them, and all
+-- of them are held but for some of the first, which are none of the last so many. There are fewer than 2^55, so that the bytes of two heaps
+-- with as many objects fit 64 bits
+pub record AreKept (table : TableId) (journal : JournalValue) (count objects room kept : ℕ) (last : Buffer Event) : Type 0 where
   pub same : journal.table ≡ table
   pub counted : count ≡ length journal.list
   pub objects_counted : objects ≡ objects_told journal.list
   pub within : length journal.list ≤ room
   pub few : room < 2 ^ 55
-  pub kept : last.items ≡ keep_last last.capacity journal.list
+  pub gone : ℕ
+  pub held : last.items ≡ drop gone journal.list
+  pub reach : gone ≤ length journal.list - kept
+  pub fits : length last.items ≤ last.capacity
+  pub fit : kept ≤ last.capacity

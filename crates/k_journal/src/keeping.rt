@@ -32,10 +32,12 @@ fn objects_by(objects: u64, event: &Event) -> u64
 pub struct Journal {
     tie: Tie,
     seat: JournalSeat,
-    count: u64,
+    pub(crate) count: u64,
     objects: u64,
-    room: u64,
-    last: HeapCircularBuffer<Event>,
+    pub(crate) room: u64,
+    // How many of the last events can be read. More of them can be held.
+    pub(crate) kept: u32,
+    pub(crate) last: HeapCircularBuffer<Event>,
 }
 
 impl Drop for Journal {
@@ -46,6 +48,7 @@ impl Drop for Journal {
             count: _,
             objects: _,
             room: _,
+            kept: _,
             last: _,
         } = self;
     }
@@ -58,9 +61,9 @@ impl Model for Journal {
 
     ghost use Rattle.k_journal.specs.Kept.{AreKept};
 
-    ghost view = { λ j. record { journal = j.seat; room = j.room; kept = j.last.capacity } };
+    ghost view = { λ j. record { journal = j.seat; room = j.room; kept = j.kept } };
 
-    ghost invariant = { λ j. AreKept j.tie j.seat j.count j.objects j.room j.last };
+    ghost invariant = { λ j. AreKept j.tie j.seat j.count j.objects j.room j.kept j.last };
 }
 
 impl Journal {
@@ -85,6 +88,7 @@ impl Journal {
             count: 0,
             objects: 1,
             room,
+            kept,
             last,
         })
     }
@@ -106,7 +110,7 @@ impl Journal {
     }
 
     /// The event of that number, from 0, which is among the last that are kept.
-    #[tactic(auto, using(crate::proofs::Lasting::kept_at))]
+    #[tactic(auto, using(crate::proofs::Lasting::held_at))]
     pub fn event(&self, number: u64) -> &Event
         requires there { number < length self.now.journal.list }
         requires kept { length self.now.journal.list ≤ number + self.now.kept }
@@ -119,7 +123,7 @@ impl Journal {
         event
     }
 
-    /// Adds an event at the end. Where no more are kept, the first of those that are is forgotten. Which cells it touches is said by
+    /// Adds an event at the end. Where no more can be held, the first of those that are is forgotten. Which cells it touches is said by
     /// `touch_in_place`.
     #[tactic(auto, using(crate::proofs::Counted::told_low))]
     pub fn append(&mut self, event: Event)
