@@ -135,7 +135,7 @@ pub walk_read : (homes : List Heap) (s n walk : ℕ) (h : Heap) → s < length h
 walk_read homes s n walk h within read len is = is ∙ ap₂ (λ m g. walk_of m g) len (read_home homes s h within read)
 
 -- a table with no item
-empty_members : (m room list : ℕ) → members (record { lists = replicate m []; room = room }) list ≡ []
+pub empty_members : (m room list : ℕ) → members (record { lists = replicate m []; room = room }) list ≡ []
 empty_members m room list = by_place m list
   where
     by_place : (n k : ℕ) → get_or (replicate {A = List ℕ} n []) k [] ≡ []
@@ -147,7 +147,7 @@ empty_joined : (m : ℕ) → concat (replicate m []) ≡ []
 empty_joined zero = refl
 empty_joined (suc m) = empty_joined m
 
-empty_size : (m : ℕ) → length (replicate {A = List ℕ} m []) ≡ m
+pub empty_size : (m : ℕ) → length (replicate {A = List ℕ} m []) ≡ m
 empty_size zero = refl
 empty_size (suc m) = ap suc (empty_size m)
 

@@ -3,6 +3,7 @@ pub mod Copied
 pub mod Counts
 pub mod Entered
 pub mod Given
+pub mod Grown
 pub mod HomeWalks
 pub mod Items
 pub mod Joined

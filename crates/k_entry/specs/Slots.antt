@@ -151,3 +151,10 @@ pub record AreKept (p : Parts) : Type 0 where
 -- each slot with a count above 0 is in the chain of its object; a free slot has a count of 0
 abbrev pub AreKnown : Parts → Type 0
 AreKnown p = (i : ℕ) → 0 < (at p.slots i).count → IsTrue (is_in (members p.chains (bucket p.room (at p.slots i).target)) i)
+
+-- of the first so many slots each one that has an item is in the chain of its object, and there is nothing else in the chains
+pub record AreChained (slots : List Item) (room count : ℕ) (chains : ListsValue) : Type 0 where
+  pub lists : length chains.lists ≡ buckets room
+  pub over : chains.room ≡ room
+  pub there : (i : ℕ) → i < count → 0 < (at slots i).count → IsTrue (is_in (members chains (bucket room (at slots i).target)) i)
+  pub only : (chain i : ℕ) → IsTrue (is_in (members chains chain) i) → (i < count) × (0 < (at slots i).count) × (chain ≡ bucket room (at slots i).target)

@@ -20,17 +20,17 @@ use std::marker::Model;
 /// whose counts say how many heaps refer to an object from outside; the lists are own.
 pub struct EntryTable {
     // A slot with a count of 0 is free.
-    slots: Vec<Item>,
+    pub(crate) slots: Vec<Item>,
     // The slots of each hash chain.
-    chains: Lists,
+    pub(crate) chains: Lists,
     // The slots of each segment, and after these lists the free slots.
-    segments: Lists,
+    pub(crate) segments: Lists,
     // The segments that have an item, by the walk number of their home.
-    walks: Lists,
-    homes: Vec<Heap>,
-    room: u32,
+    pub(crate) walks: Lists,
+    pub(crate) homes: Vec<Heap>,
+    pub(crate) room: u32,
     // How many items there are.
-    count: u32,
+    pub(crate) count: u32,
 }
 
 impl Drop for EntryTable {
