@@ -24,8 +24,8 @@ pub use changes::{
 };
 pub use example::third_node_is_freed;
 pub use k_mark::{
-    Area, Body, Bound, CellPhase, ExitTable, Link, Listener, Name, NoMemory, Nobody, Seg, Segment,
-    Stored, Swept, TypeId, clear, mark_kept, root, sweep_telling,
+    Area, Body, Bound, CellPhase, ExitRoom, ExitTable, Link, Listener, Name, NoMemory, Nobody, Seg,
+    Segment, Stored, Swept, TypeId, clear, mark_kept, root, sweep_telling,
 };
 pub use lists::{lists_are_empty_without_marks, lists_name_what_is_there};
 pub use names::{names_find_what_changes_left, roots_are_gray_and_stay_so};

@@ -42,7 +42,7 @@ pub struct Holdings {
     area: RootedArea,
     // Those of the objects.
     bytes: u64,
-    exits: ExitTable,
+    pub(crate) exits: ExitTable,
     phase: CellPhase,
     note: Note,
     // What is known of the last collection. No contract speaks of it.

@@ -3,6 +3,7 @@
 #![tactic(auto)]
 
 mod carrying;
+mod growing;
 mod holding;
 mod looking;
 mod rooms;
@@ -11,5 +12,5 @@ mod writing;
 
 pub use holding::Holdings;
 pub use k_agree::Note;
-pub use k_areas::{Body, Listener, Segment, Stored, Swept};
+pub use k_areas::{Body, ExitRoom, Listener, Segment, Stored, Swept};
 pub use rooms::HoldingRooms;

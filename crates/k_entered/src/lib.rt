@@ -7,6 +7,8 @@
 //! Below stand `k_entry`, whose words the contracts use, and the definitions of `k_types`.
 #![tactic(auto)]
 
+mod growing;
 mod tables;
 
+pub use k_entry::EntryRoom;
 pub use tables::EnteredTables;

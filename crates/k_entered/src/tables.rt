@@ -15,8 +15,8 @@ use std::marker::Model;
 /// The objects that are entered, and those that are pinned, each with its count. Source: KaffeOS paper, on entry items; the pins
 /// are own.
 pub struct EnteredTables {
-    entries: EntryTable,
-    pins: EntryTable,
+    pub(crate) entries: EntryTable,
+    pub(crate) pins: EntryTable,
 }
 
 impl Drop for EnteredTables {

@@ -37,7 +37,7 @@ impl Model for EntryRoom {
 }
 
 impl EntryRoom {
-    /// Memory for so many, all of it at once.
+    /// Memory for so many, 32 bytes for each, all of it at once. It writes links and a head for each.
     ///
     /// # Errors
     ///
@@ -106,7 +106,8 @@ impl EntryTable {
         self.room = room;
     }
 
-    /// Has room for so many items from now on, no fewer than before. What else is said of `move_into` is so here.
+    /// Has room for so many items from now on, no fewer than before. It takes what [`EntryRoom::make`] says beside the memory that it has,
+    /// moves into it as [`EntryTable::move_into`] says, and gives back the old.
     ///
     /// # Errors
     ///

@@ -3,8 +3,8 @@
 //! An [`EntryTable`] is a list of objects with counts above 0, a room, and for each segment its home
 //! heap. The contracts say what each call changes of the counts, and leave the order of the items
 //! free. A walk from [`EntryTable::first_of`] by [`EntryTable::next`] gives each object of a home
-//! once, and [`EntryTable::copy_of`] copies what it gives into a row. Only [`EntryTable::make`] and
-//! [`EntryTable::grow`] take memory.
+//! once, and [`EntryTable::copy_of`] copies what it gives into a row. Only [`EntryTable::make`],
+//! [`EntryTable::grow`] and [`EntryRoom::make`] take memory.
 //!
 //! The items stand in slots, and lists linked by index lead to them: by a fixed hash of the object,
 //! by its segment, and from each heap to the segments of its home that have an item. Where the hash

@@ -30,7 +30,7 @@ impl Model for ExitRoom {
 }
 
 impl ExitRoom {
-    /// Memory for so many, all of it at once.
+    /// Memory for so many, 20 bytes for each, all of it at once. It writes a number for each.
     ///
     /// # Errors
     ///
@@ -72,7 +72,8 @@ impl ExitTable {
         self.heads = heads;
     }
 
-    /// Has room for so many targets from now on, no fewer than before. What else is said of `move_into` is so here.
+    /// Has room for so many targets from now on, no fewer than before. It takes what [`ExitRoom::make`] says beside the memory that it has,
+    /// moves into it as [`ExitTable::move_into`] says, and gives back the old.
     ///
     /// # Errors
     ///

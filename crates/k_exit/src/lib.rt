@@ -1,8 +1,8 @@
 //! The exit items of a heap: the objects outside it to which it may refer.
 //!
 //! An [`ExitTable`] is a list of distinct targets, each marked or not, and a room. The contracts say
-//! what each call changes of that list. Only [`ExitTable::make`] and [`ExitTable::grow`] take
-//! memory: the table's invariant keeps the room of both vectors as it was made, and no other call changes it.
+//! what each call changes of that list. Only [`ExitTable::make`], [`ExitTable::grow`] and [`ExitRoom::make`] take
+//! memory: the table's invariant keeps the room of both vectors, and no call but `grow` and `move_into` changes it.
 //!
 //! The items are linked by index into hash chains, so that [`ExitTable::has`], [`ExitTable::add`]
 //! and [`ExitTable::mark`] take constant time where the fixed hash spreads the names. A caller that

@@ -6,8 +6,10 @@
 #![tactic(auto)]
 
 mod changing;
+mod growing;
 mod heap;
 mod process;
 mod reading;
 
 pub use heap::{CellRooms, HeapCell};
+pub use k_cell::ExitRoom;

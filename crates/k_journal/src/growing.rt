@@ -16,7 +16,8 @@ impl Journal {
 
     /// Keeps so many of the last events, no fewer than before, and answers how many of them can be read from now on. These are all that are
     /// asked for while no event is forgotten. Else some of them are gone: it answers how many are still there, and holds more of those to
-    /// come, so that the same call later answers more, and takes no memory.
+    /// come, so that the same call later answers more. Where it holds room for so many already it is constant time and takes no memory; else it
+    /// takes memory for all of them, and moves those that it holds.
     ///
     /// # Errors
     ///

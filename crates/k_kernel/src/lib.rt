@@ -6,7 +6,9 @@
 #![tactic(auto)]
 
 mod changing;
+mod growing;
 mod kernel;
 mod reading;
 
+pub use k_cell::ExitRoom;
 pub use kernel::KernelCell;

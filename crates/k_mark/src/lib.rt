@@ -19,7 +19,7 @@ mod marking;
 mod steps;
 mod sweeping;
 
-pub use k_exit::ExitTable;
+pub use k_exit::{ExitRoom, ExitTable};
 pub use k_laws::{CellPhase, Link, Name, NoMemory, Seg, TypeId};
 pub use k_space::{Area, Body, Bound, Segment, Stored};
 pub use keeping::mark_kept;

@@ -1,5 +1,5 @@
 //! Who is told the names of the objects that are freed.
-ghost use Rattle.std.specs.Prelude.{ℕ, ◌≡◌, ◌<◌, ◌++◌, ◌∷◌, [], List, length, IfOk};
+ghost use Rattle.std.specs.Prelude.{ℕ, ◌≡◌, ◌<◌, ◌≤◌, ◌++◌, ◌∷◌, [], List, length, vec_capacity, IfOk};
 ghost use Rattle.k_laws.specs.k_types.declared.names.Name.{Name as Named};
 
 use k_laws::{Name, NoMemory};
@@ -49,6 +49,18 @@ impl Model for Freed {
     ghost invariant = { λ f. vec_capacity f.names ≡ f.room };
 }
 
+/// Copies the names into a list that has none yet.
+fn copy_names(names: &[Name], into: &mut Vec<Name>)
+    requires empty { into.old.items ≡ [] }
+    requires room { length names.now ≤ vec_capacity into.old }
+    ensures items { into.new.items ≡ names.now }
+    ensures capacity { vec_capacity into.new ≡ vec_capacity into.old }
+{
+    for name in names {
+        into.push_reserved(*name);
+    }
+}
+
 impl Freed {
     /// No name, and room for so many, 8 bytes each. It takes the memory for all of them at once.
     ///
@@ -69,6 +81,20 @@ impl Freed {
         ensures { result.now ≡ self.now.names }
     {
         &self.names
+    }
+
+    /// Has the room of the other list, which has no name, from now on. The names stay. It passes each of them,
+    /// takes no memory, and gives back that of the old room.
+    pub fn move_into(&mut self, larger: Freed)
+        requires empty { larger.names ≡ [] }
+        requires room { length self.old.names ≤ larger.room }
+        ensures { self.new ≡ record self.old { room = larger.room } }
+    {
+        let Freed { names, room } = larger;
+        let mut names = names;
+        copy_names(&self.names, &mut names);
+        self.names = names;
+        self.room = room;
     }
 
     /// Forgets all names.

@@ -6,6 +6,8 @@
 
 mod cell;
 mod changing;
+mod growing;
 mod reading;
 
 pub use cell::SharedCell;
+pub use k_cell::ExitRoom;
