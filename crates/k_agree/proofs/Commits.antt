@@ -119,7 +119,7 @@ module _ (trace : Trace) (journal : JournalValue) (event : Event) where
         let none : ◌≡◌ {A = ℕ} (cond (cell_among other.cell (cells_of touched)) 1 0) 0 = ap (λ b. cond b 1 0) apart in
         let kept : total_of journal.touches (segment_of trace other.cell) ≡ total_of (touches_after (numbers_of touched) journal.touches) (segment_of trace other.cell) = omega (arith, up, none) in
         record {
-          prefix = prefix_longer other.note.list journal.list event fits.prefix;
+          prefix = prefix_longer other.note.list journal.list (event ∷ []) fits.prefix;
           share =
               fits.share
               ∙ ap (total_of journal.touches) agrees.number

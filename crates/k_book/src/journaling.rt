@@ -2,7 +2,7 @@
 ghost use Rattle.std.specs.Prelude.{◌≡◌, ◌≢◌, ◌+◌, ◌<◌, ◌≤◌, ◌^◌, Some, length, slice_get};
 ghost use Rattle.k_types.specs.Complete.{IsPrefixOf};
 ghost use Rattle.k_agree.specs.k_tie.Rule.{total_of};
-ghost use Rattle.k_journal.specs.Kept.{with_event, with_touch};
+ghost use Rattle.k_journal.specs.Kept.{with_event, with_events, with_touch, with_touches};
 ghost use Rattle.k_journal.specs.Objects.{objects_told};
 
 use crate::parts::Book;
@@ -44,6 +44,15 @@ impl Book {
         self.journal.append(event);
     }
 
+    /// Adds these events at the end of the journal, in order, as `Journal::append_all` does: each of them costs a few instructions, and only
+    /// those that are kept are copied.
+    pub fn append_all(&mut self, events: &[Event])
+        requires { length self.old.journal.list + length events.now ≤ self.old.event_room }
+        ensures { self.new ≡ record self.old { journal = with_events events.now self.old.journal } }
+    {
+        self.journal.append_all(events);
+    }
+
     /// Tells that the note's list is a prefix of the journal and that its share is its cell's total, so that no event has
     /// touched the cell unseen. The note has the whole journal afterwards.
     pub fn meet(&mut self, note: &mut Note)
@@ -64,6 +73,15 @@ impl Book {
         ensures note { note.new ≡ record note.old { share = note.old.share + 1 } }
     {
         self.journal.touch_in_place(note);
+    }
+
+    /// Counts so many more events that touch the note's cell. Constant time.
+    pub fn touch_all(&mut self, note: &mut Note, times: u64)
+        requires { note.old.table ≡ self.old.journal.table }
+        ensures total { self.new ≡ record self.old { journal = with_touches times note.old.cell self.old.journal } }
+        ensures note { note.new ≡ record note.old { share = note.old.share + times } }
+    {
+        self.journal.touch_all_in_place(note, times);
     }
 
     /// Tells that two notes have different cells, and leaves both as they were.

@@ -1,102 +1,98 @@
--- Publishing the unpublished events one by one.
-use Rattle.std.proofs.Common.{◌≡◌, ◌+◌, ◌<◌, refl, sym, ap, subst, ◌∙◌, List, [], ◌∷◌, ◌++◌, length, arith}
-use Rattle.std.proofs.lemmas.List.{append_assoc, append-nil, length-append}
+-- Publishing the unpublished events all at once.
+use Rattle.std.proofs.Common.{◌≡◌, ℕ, zero, suc, ◌+◌, ◌≤◌, refl, sym, ap, ap₂, subst, ◌∙◌, List, [], ◌∷◌, ◌++◌, length, replicate, arith}
+use Rattle.std.proofs.lemmas.List.{append_assoc, append-nil}
 use Rattle.k_types.specs.declared.event.Event.{Event}
-use Rattle.k_types.specs.declared.names.Heap.TheVariants.{User}
-use Rattle.k_types.specs.Steps.{touch_count}
 use Rattle.k_types.specs.Trace.{Trace}
-use Rattle.k_book.specs.k_agree.Agreement.{Agrees, BookAgrees}
+use Rattle.k_tie.specs.Values.{JournalValue, NoteValue}
 use Rattle.k_book.specs.k_agree.Committing.{journal_after, note_after}
-use Rattle.k_book.specs.k_agree.Meeting.{Fits, ShowsTheJournal, met_note}
-use Rattle.k_book.specs.k_agree.Publishing.{PublishesItsOldest}
-use Rattle.k_book.proofs.Published.{publishes}
+use Rattle.k_book.specs.k_agree.Meeting.{met_note}
+use Rattle.k_book.specs.k_agree.Publishing.{PublishesAll, journal_after_all, note_after_all}
+use Rattle.k_book.proofs.Published.{publishes_all}
 use Rattle.k_book.specs.Books.{BookRecord}
 use Rattle.k_heap.specs.Heaps.{HeapRecord}
 use Rattle.k_commit.specs.Met.{HeapHasMet}
 use Rattle.k_commit.specs.Published.{CanPublish, HasPublished}
 use Rattle.k_book.proofs.LawsLaws.{states_are_sound}
 
--- some of the events are published, and the rest is still the cell's
-pub record IsPublishing (trace : Trace) (old c : HeapRecord) (before b : BookRecord) : Type 0 where
-  pub fits : Fits before.journal old.note
-  pub taken : List Event
-  pub split : old.value.tail ≡ taken ++ c.value.tail
-  pub cell_is : c ≡ record old { note = c.note; value = record old.value { tail = c.value.tail } }
-  pub book_is : b ≡ record before { journal = b.journal }
-  pub journal : b.journal.list ≡ before.journal.list ++ taken
-  pub table : c.note.table ≡ b.journal.table
-  pub same_table : b.journal.table ≡ before.journal.table
-  pub list : c.note.list ≡ b.journal.list
-  pub agrees : Agrees trace (User c.pid) c.note c.value
-  pub book_agrees : BookAgrees trace b.journal b.value
+-- one touch more, before the others or after them
+replicate_first : (k n : ℕ) (touches : List ℕ) → replicate k n ++ n ∷ touches ≡ n ∷ replicate k n ++ touches
+replicate_first zero n touches = refl
+replicate_first (suc k) n touches = ap (λ (t : List ℕ). n ∷ t) (replicate_first k n touches)
 
-module _ (trace : Trace) (old : HeapRecord) (before : BookRecord) (can : CanPublish trace old before) where
-  publishing_begins : Fits before.journal old.note → ShowsTheJournal trace before.journal (User old.pid) old.note old.value →
-      IsPublishing trace old (record old { note = met_note before.journal old.note }) before before
-  publishing_begins fits shows = record {
-    fits = fits;
-    taken = [];
-    split = refl;
+-- the journal with all events and touches, and the note with all of them
+abbrev pub journal_with : List Event → ℕ → JournalValue → JournalValue
+journal_with events number journal = record journal { list = journal.list ++ events; touches = replicate (length events) number ++ journal.touches }
+
+abbrev pub note_with : List Event → NoteValue → NoteValue
+note_with events note = record note { list = note.list ++ events; share = note.share + length events }
+
+-- one after the other is all at once
+pub journal_at_once : (events : List Event) (number : ℕ) (journal : JournalValue) → journal_after_all events number journal ≡ journal_with events number journal
+journal_at_once [] number journal = ap (λ (l : List Event). record journal { list = l }) (sym (append-nil journal.list))
+journal_at_once (event ∷ events) number journal =
+    journal_at_once events number (journal_after event (number ∷ []) journal)
+    ∙ ap₂ (λ (l : List Event) (t : List ℕ). record journal { list = l; touches = t }) (append_assoc journal.list (event ∷ []) events) (replicate_first (length events) number journal.touches)
+
+pub note_at_once : (events : List Event) (note : NoteValue) → note_after_all events note ≡ note_with events note
+note_at_once [] note =
+    let same : note.share ≡ note.share + 0 = omega arith in
+    ap₂ (λ (l : List Event) (n : ℕ). record note { list = l; share = n }) (sym (append-nil note.list)) same
+note_at_once (event ∷ events) note =
+    let same : (note.share + 1) + length events ≡ note.share + suc (length events) = omega arith in
+    note_at_once events (note_after event note) ∙ ap₂ (λ (l : List Event) (n : ℕ). record note { list = l; share = n }) (append_assoc note.list (event ∷ []) events) same
+
+-- counted by another number that is theirs, and appended to a list that the note knows
+pub note_counted : (events : List Event) (number : ℕ) (note : NoteValue) (known : List Event) → number ≡ length events → note.list ≡ known →
+    record note { list = known ++ events; share = note.share + number } ≡ note_after_all events note
+note_counted events number note known count list =
+    ap₂ (λ (l : List Event) (n : ℕ). record note { list = l ++ events; share = note.share + n }) (sym list) count ∙ sym (note_at_once events note)
+
+pub journal_counted : (events : List Event) (times number : ℕ) (journal : JournalValue) → times ≡ length events →
+    record journal { list = journal.list ++ events; touches = replicate times number ++ journal.touches } ≡ journal_after_all events number journal
+journal_counted events times number journal count =
+    ap (λ n. record journal { list = journal.list ++ events; touches = replicate n number ++ journal.touches }) count ∙ sym (journal_at_once events number journal)
+
+module _ (trace : Trace) (old : HeapRecord) (before : BookRecord) (can : CanPublish trace old before) (c : HeapRecord) (b : BookRecord) (met : HeapHasMet trace old c before b) where
+  abbrev events : List Event
+  events = old.value.tail
+
+  abbrev note : NoteValue
+  note = met_note before.journal old.note
+
+  -- the cell has met the journal
+  pub met_table : c.note.table ≡ b.journal.table
+  met_table = ap (λ (w : HeapRecord). w.note.table) met.cell_is ∙ can.table ∙ sym (ap (λ (k : BookRecord). k.journal.table) met.book_is)
+
+  pub met_list : c.note.list ≡ b.journal.list
+  met_list = ap (λ (w : HeapRecord). w.note.list) met.cell_is ∙ sym (ap (λ (k : BookRecord). k.journal.list) met.book_is)
+
+  pub met_room : length b.journal.list + length c.value.tail ≤ b.event_room
+  met_room =
+      subst (λ (w : HeapRecord). length b.journal.list + length w.value.tail ≤ b.event_room) (sym met.cell_is)
+      (subst (λ (k : BookRecord). length k.journal.list + length events ≤ k.event_room) (sym met.book_is) (can.room met.told.fits))
+
+  all : PublishesAll trace before.journal old.pid.0 note old.value before.value
+  all = publishes_all trace before.journal old.pid.0 note old.value before.value met.told.shows.agrees can.book_agrees refl
+
+  -- it has published all once these are appended
+  published_then : HasPublished trace events old (record old { note = note_after_all events note; value = record old.value { tail = [] } }) before (record before { journal = journal_after_all events note.cell before.journal })
+  published_then = record {
+    fits = met.told.fits;
     cell_is = refl;
     book_is = refl;
-    journal = sym (append-nil before.journal.list);
-    table = can.table;
-    same_table = refl;
-    list = refl;
-    agrees = shows.agrees;
-    book_agrees = can.book_agrees;
+    journal = ap (λ (j : JournalValue). j.list) (journal_at_once events note.cell before.journal);
+    table = ap (λ (n : NoteValue). n.table) (note_at_once events note) ∙ can.table ∙ sym (ap (λ (j : JournalValue). j.table) (journal_at_once events note.cell before.journal));
+    same_table = ap (λ (j : JournalValue). j.table) (journal_at_once events note.cell before.journal);
+    sound = λ limits. states_are_sound trace (journal_after_all events note.cell before.journal).list limits all.book_agrees.legal;
+    met = all.cell_met;
+    agrees = all.cell_agrees;
+    book_agrees = all.book_agrees;
   }
 
-  pub publishing_starts : (c : HeapRecord) (b : BookRecord) → HeapHasMet trace old c before b → IsPublishing trace old c before b
-  publishing_starts c b met =
-      subst (λ (k : BookRecord). IsPublishing trace old c before k) (sym met.book_is)
-      (subst (λ (w : HeapRecord). IsPublishing trace old w before before) (sym met.cell_is) (publishing_begins met.told.fits met.told.shows))
-
-  module _ (c : HeapRecord) (b : BookRecord) (p : IsPublishing trace old c before b) where
-    pub room_left : (event : Event) (rest : List Event) → c.value.tail ≡ event ∷ rest → length b.journal.list < b.event_room
-    room_left event rest is =
-        let room = can.room p.fits in
-        let same : b.event_room ≡ before.event_room = ap (λ (k : BookRecord). k.event_room) p.book_is in
-        let list : length b.journal.list ≡ length before.journal.list + length p.taken = ap length p.journal ∙ length-append before.journal.list p.taken in
-        let tail : length old.value.tail ≡ length p.taken + length (event ∷ rest) = ap length p.split ∙ length-append p.taken c.value.tail ∙ ap (λ (t : List Event). length p.taken + length t) is in
-        omega (arith, room, same, list, tail)
-
-    oldest : (event : Event) (rest : List Event) → c.value.tail ≡ event ∷ rest → PublishesItsOldest trace b.journal c.pid.0 c.note c.value event rest b.value
-    oldest event rest is = publishes trace b.journal c.pid.0 c.note c.value event rest b.value p.agrees p.book_agrees p.list is
-
-    pub publishing_goes_on : (event : Event) (rest : List Event) → c.value.tail ≡ event ∷ rest →
-        IsPublishing trace old (record c { note = note_after event c.note; value = record c.value { tail = rest } }) before (record b { journal = journal_after event (c.note.cell ∷ []) b.journal })
-    publishing_goes_on event rest is =
-        let o = oldest event rest is in
-        record {
-          fits = p.fits;
-          taken = p.taken ++ event ∷ [];
-          split = p.split ∙ ap (λ (t : List Event). p.taken ++ t) is ∙ sym (append_assoc p.taken (event ∷ []) rest);
-          cell_is = ap (λ (k : HeapRecord). record k { note = note_after event c.note; value = record k.value { tail = rest } }) p.cell_is;
-          book_is = ap (λ (k : BookRecord). record k { journal = journal_after event (c.note.cell ∷ []) b.journal }) p.book_is;
-          journal = ap (λ (l : List Event). l ++ event ∷ []) p.journal ∙ append_assoc before.journal.list p.taken (event ∷ []);
-          table = p.table;
-          same_table = p.same_table;
-          list = ap (λ (l : List Event). l ++ event ∷ []) p.list;
-          agrees = o.cell_agrees;
-          book_agrees = o.book_agrees;
-        }
-
-    pub publishing_ends : c.value.tail ≡ [] → HasPublished trace old.value.tail old c before b
-    publishing_ends none = record {
-      fits = p.fits;
-      cell_is = p.cell_is ∙ ap (λ (t : List Event). record old { note = c.note; value = record old.value { tail = t } }) none;
-      book_is = p.book_is;
-      journal = p.journal ∙ ap (λ (t : List Event). before.journal.list ++ t) (sym (append-nil p.taken) ∙ ap (λ (t : List Event). p.taken ++ t) (sym none) ∙ sym p.split);
-      table = p.table;
-      same_table = p.same_table;
-      sound = λ limits. states_are_sound trace b.journal.list limits p.book_agrees.legal;
-      met = record {
-        there = p.agrees.there;
-        number = p.agrees.number;
-        list = p.list;
-        counted = p.agrees.counted ∙ ap (touch_count trace (User c.pid)) p.list;
-      };
-      agrees = p.agrees;
-      book_agrees = p.book_agrees;
-    }
+  pub published : (last : HeapRecord) (after : BookRecord) → last ≡ record c { note = note_after_all c.value.tail c.note; value = record c.value { tail = [] } } →
+      after ≡ record b { journal = journal_after_all c.value.tail c.note.cell b.journal } → HasPublished trace events old last before after
+  published last after last_is after_is =
+      let cell_now = last_is ∙ ap (λ (w : HeapRecord). record w { note = note_after_all w.value.tail w.note; value = record w.value { tail = [] } }) met.cell_is in
+      let book_now = after_is ∙ ap₂ (λ (w : HeapRecord) (k : BookRecord). record k { journal = journal_after_all w.value.tail w.note.cell k.journal }) met.cell_is met.book_is in
+      subst (λ (w : HeapRecord). HasPublished trace events old w before after) (sym cell_now)
+      (subst (λ (k : BookRecord). HasPublished trace events old (record old { note = note_after_all events note; value = record old.value { tail = [] } }) before k) (sym book_now) published_then)

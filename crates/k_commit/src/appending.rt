@@ -1,6 +1,7 @@
 //! Events that are appended, with the cells that they touch.
-ghost use Rattle.std.specs.Prelude.{◌≡◌, ◌<◌, [], ◌∷◌, length};
+ghost use Rattle.std.specs.Prelude.{◌≡◌, ◌+◌, ◌<◌, ◌≤◌, [], ◌∷◌, length};
 ghost use Rattle.k_book.specs.k_agree.Committing.{journal_after, note_after};
+ghost use Rattle.k_book.specs.k_agree.Publishing.{journal_after_all, note_after_all};
 
 use k_book::Book;
 use k_heap::HeapCell;
@@ -19,6 +20,25 @@ pub fn append_heap(cell: &mut HeapCell, book: &mut Book, event: Event)
     book.append(event);
     book.touch(cell.note_mut());
     book.meet(cell.note_mut());
+}
+
+/// Appends the cell's unpublished events, each of which touches it; it has none afterwards. The cell has met the journal and then meets the
+/// longer one. Constant time but for a few instructions for each event, and no word is changed where there is none.
+pub(crate) fn append_tail(cell: &mut HeapCell, book: &mut Book)
+    requires table { cell.old.note.table ≡ book.old.journal.table }
+    requires met { cell.old.note.list ≡ book.old.journal.list }
+    requires room { length book.old.journal.list + length cell.old.value.tail ≤ book.old.event_room }
+    ensures cell { cell.new ≡ record cell.old { note = note_after_all cell.old.value.tail cell.old.note; value = record cell.old.value { tail = [] } } }
+    ensures book { book.new ≡ record book.old { journal = journal_after_all cell.old.value.tail cell.old.note.cell book.old.journal } }
+{
+    let number = cell.tail_len();
+    if number == 0 {
+        return;
+    }
+    book.append_all(cell.tail());
+    book.touch_all(cell.note_mut(), u64::from(number));
+    book.meet(cell.note_mut());
+    cell.clear_tail();
 }
 
 /// Appends an event that touches the kernel's cell.

@@ -2,20 +2,17 @@
 ghost use Rattle.k_types.specs.Trace.{Trace};
 ghost use Rattle.k_commit.specs.Published.{CanPublish, HasPublished};
 
-use crate::appending::append_heap;
+use crate::appending::append_tail;
 use crate::meeting::meet_heap;
 use k_book::Book;
 use k_heap::HeapCell;
 
-/// Appends the cell's unpublished events in order; it has none afterwards. The cost is in proportion to their number.
+/// Appends the cell's unpublished events in order; it has none afterwards. It takes constant time and a few instructions for each of them.
 pub fn publish(cell: &mut HeapCell, book: &mut Book)
     ghost trace: { Trace }
     requires { CanPublish trace cell.old book.old }
     ensures { HasPublished trace cell.old.value.tail cell.old cell.new book.old book.new }
 {
     meet_heap(cell, book);
-    while cell.tail_len() > 0 {
-        let event = cell.take_tail();
-        append_heap(cell, book, event);
-    }
+    append_tail(cell, book);
 }

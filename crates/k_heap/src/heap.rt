@@ -26,7 +26,7 @@ pub struct HeapCell {
     pub(crate) done: u64,
     pub(crate) has_ended: bool,
     // The oldest comes first.
-    pub(crate) tail: VecDeque<Event>,
+    pub(crate) tail: Vec<Event>,
     // That for the next allocation comes first.
     pub(crate) bodies: VecDeque<Body>,
 }
@@ -50,12 +50,11 @@ impl Model for HeapCell {
 
     ghost Value = { HeapRecord };
 
-    ghost use Rattle.std.specs.Prelude.{◌<◌, ◌+◌, ◌^◌};
-    ghost use Rattle.std.specs.VecDeque.{deque_capacity};
+    ghost use Rattle.std.specs.Prelude.{◌<◌, ◌+◌, ◌^◌, vec_capacity};
 
-    ghost view = { λ c. heap_seen c.holdings c.pid c.registers c.done c.has_ended c.tail.items (deque_capacity c.tail) c.bodies.items };
+    ghost view = { λ c. heap_seen c.holdings c.pid c.registers c.done c.has_ended c.tail.items (vec_capacity c.tail) c.bodies.items };
 
-    ghost invariant = { λ c. (c.pid.0 + 1 < 2 ^ 32) × (deque_capacity c.tail < 2 ^ 32) };
+    ghost invariant = { λ c. (c.pid.0 + 1 < 2 ^ 32) × (vec_capacity c.tail < 2 ^ 32) };
 }
 
 impl HeapCell {
@@ -84,7 +83,7 @@ impl HeapCell {
             exits: rooms.exits,
         };
         let holdings = Holdings::make(alloc, seg, held, note)?;
-        let tail = VecDeque::with_capacity(alloc, rooms.tail as usize)?;
+        let tail = Vec::with_capacity(alloc, rooms.tail as usize)?;
         Ok(HeapCell {
             holdings,
             pid,

@@ -9,8 +9,6 @@ use crate::heap::HeapCell;
 use k_cell::Body;
 use k_io::NoMemory;
 use k_types::{Event, Link, Reg};
-use std::collections::VecDeque;
-use std::mem::replace;
 
 impl HeapCell {
     /// Has the register hold that. Constant time.
@@ -44,32 +42,15 @@ impl HeapCell {
         requires { length self.old.value.tail < self.old.tail_room }
         ensures { self.new ≡ record self.old { value = record self.old.value { tail = self.old.value.tail ++ event ∷ [] } } }
     {
-        self.tail.push_back_reserved(event);
+        self.tail.push_reserved(event);
     }
 
-    /// Gives the oldest event that the journal lacks.
-    pub fn take_tail(&mut self) -> Event
-        requires { 0 < length self.old.value.tail }
-        ensures oldest { self.old.value.tail ≡ result ∷ self.new.value.tail }
-        ensures rest { self.new ≡ record self.old { value = record self.old.value { tail = self.new.value.tail } } }
+    /// Has no event left that the journal lacks, and the room for them as before. Constant time.
+    #[inline]
+    pub fn clear_tail(&mut self)
+        ensures { self.new ≡ record self.old { value = record self.old.value { tail = [] } } }
     {
-        let Some(event) = self.tail.pop_front() else {
-            unreachable!()
-        };
-        if self.tail.is_empty() {
-            self.rewind_tail();
-        }
-        event
-    }
-
-    /// Has the list of unpublished events begin at the front of its memory again. A queue alone would go on to memory that was never
-    /// used with each event, up to the room for all operations of the process.
-    fn rewind_tail(&mut self)
-        ensures { self.new ≡ self.old }
-    {
-        let alloc = *self.tail.allocator();
-        let tail = replace(&mut self.tail, VecDeque::new(alloc));
-        self.tail = VecDeque::from_vec(tail.into_vec());
+        self.tail.clear();
     }
 
     /// Has the body come first, as that for the next allocation. `NoMemory` comes where the list of bodies is full and finds no memory.

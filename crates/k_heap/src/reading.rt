@@ -14,7 +14,7 @@ ghost use Rattle.k_heap.specs.Heaps.{has_ended_in, holdings_of, own_segment};
 
 use crate::heap::HeapCell;
 use k_cell::Stored;
-use k_types::{CellPhase, Link, Name, Pid, Reg, Seg, TypeId};
+use k_types::{CellPhase, Event, Link, Name, Pid, Reg, Seg, TypeId};
 
 impl HeapCell {
     /// The process. Constant time.
@@ -51,6 +51,14 @@ impl HeapCell {
         ensures room { length self.now.value.tail ≤ self.now.tail_room }
     {
         self.tail.len() as u32
+    }
+
+    /// The unpublished events, of which the oldest comes first. Constant time.
+    #[inline]
+    pub fn tail(&self) -> &[Event]
+        ensures { result.now ≡ self.now.value.tail }
+    {
+        self.tail.as_slice()
     }
 
     /// What the register holds. Constant time.

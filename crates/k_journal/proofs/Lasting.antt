@@ -5,13 +5,13 @@ use Rattle.std.proofs.lemmas.List.{drop-append-le, drop-drop, length-drop}
 use Rattle.circular_buffer.specs.Buffer.{keep_last}
 
 module _ {A : Type 0} where
-  -- some of the first are left out, and of what is held and one more the last ones are kept: those of the longer list
-  pub held_on : (k gone : ℕ) (xs items : List A) (x : A) → items ≡ drop gone xs → gone ≤ length xs →
-      keep_last k (items ++ x ∷ []) ≡ drop (gone + (length items + 1 - k)) (xs ++ x ∷ [])
-  held_on k gone xs items x is low =
-      let less = length items + 1 - k in
-      ap (λ n. drop (n - k) (items ++ x ∷ [])) (length-append items (x ∷ [])) ∙ ap (λ ys. drop less (ys ++ x ∷ [])) is
-      ∙ ap (drop less) (sym (drop-append-le gone xs (x ∷ []) low)) ∙ drop-drop less gone (xs ++ x ∷ [])
+  -- some of the first are left out, and of what is held and some more the last ones are kept: those of the longer list
+  pub held_on : (k gone : ℕ) (xs items more : List A) → items ≡ drop gone xs → gone ≤ length xs →
+      keep_last k (items ++ more) ≡ drop (gone + (length items + length more - k)) (xs ++ more)
+  held_on k gone xs items more is low =
+      let less = length items + length more - k in
+      ap (λ n. drop (n - k) (items ++ more)) (length-append items more) ∙ ap (λ ys. drop less (ys ++ more)) is
+      ∙ ap (drop less) (sym (drop-append-le gone xs more low)) ∙ drop-drop less gone (xs ++ more)
 
   -- what is found in a list past those that are left out
   at_after : (k : ℕ) (xs : List A) (i j : ℕ) → j ≡ k + i → slice_get (drop k xs) i ≡ slice_get xs j

@@ -1,5 +1,5 @@
 -- What contracts see of the journal that the book keeps.
-use Rattle.std.specs.Prelude.{◌≡◌, ℕ, ◌-◌, ◌<◌, ◌≤◌, ◌^◌, [], ◌∷◌, ◌++◌, drop, length}
+use Rattle.std.specs.Prelude.{◌≡◌, ℕ, ◌-◌, ◌<◌, ◌≤◌, ◌^◌, List, [], ◌∷◌, ◌++◌, drop, length, replicate}
 use Rattle.atomic_table.specs.Seated.{TableId}
 use Rattle.circular_buffer.specs.Buffer.{Buffer}
 use Rattle.k_types.specs.declared.event.Event.{Event}
@@ -16,9 +16,17 @@ pub record KeptJournal : Type 0 where
 abbrev pub with_event : Event → JournalValue → JournalValue
 with_event event journal = record journal { list = journal.list ++ event ∷ [] }
 
+-- these events more
+abbrev pub with_events : List Event → JournalValue → JournalValue
+with_events events journal = record journal { list = journal.list ++ events }
+
 -- one touch more of the cell
 abbrev pub with_touch : ℕ → JournalValue → JournalValue
 with_touch cell journal = record journal { touches = cell ∷ journal.touches }
+
+-- so many touches more of the cell
+abbrev pub with_touches : ℕ → ℕ → JournalValue → JournalValue
+with_touches times cell journal = record journal { touches = replicate times cell ++ journal.touches }
 
 -- the seat is of that table, the count is that of the events that it knows, for which there is room, the objects are counted by them, and all
 -- of them are held but for some of the first, which are none of the last so many. There are fewer than 2^55, so that the bytes of two heaps

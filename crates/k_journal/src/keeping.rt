@@ -2,8 +2,8 @@
 ghost use Rattle.std.specs.Prelude.{◌≡◌, ◌≢◌, ◌+◌, ◌-◌, ◌<◌, ◌≤◌, ◌^◌, [], Some, IfOk, length, slice_get};
 ghost use Rattle.k_types.specs.Complete.{IsPrefixOf};
 ghost use Rattle.k_tie.specs.Rule.{total_of};
-ghost use Rattle.k_journal.specs.Kept.{with_event, with_touch};
-ghost use Rattle.k_journal.specs.Objects.{objects_by, objects_told};
+ghost use Rattle.k_journal.specs.Kept.{with_event, with_events, with_touch, with_touches};
+ghost use Rattle.k_journal.specs.Objects.{objects_by, objects_from, objects_told};
 
 use circular_buffer::HeapCircularBuffer;
 use k_io::NoMemory;
@@ -25,6 +25,18 @@ fn objects_by(objects: u64, event: &Event) -> u64
         Event::Ended { freed_objects, .. } => objects.saturating_sub(u64::from(freed_objects)),
         _ => objects,
     }
+}
+
+/// How many objects there are after these events, where there were so many before them. A few instructions for each.
+fn objects_by_all(objects: u64, events: &[Event]) -> u64
+    requires { objects + length events.now < 2 ^ 64 }
+    ensures { result ≡ objects_from objects events.now }
+{
+    let mut objects = objects;
+    for event in events {
+        objects = objects_by(objects, event);
+    }
+    objects
 }
 
 /// The events of the run in order, of which the last ones can be read, and for each cell how many of them touch it. A note belongs to
@@ -136,6 +148,19 @@ impl Journal {
         self.count += 1;
     }
 
+    /// Adds these events at the end, in order. Of those that are held and these the last are held that can be, and no others are copied: none
+    /// of them where none is kept. All are counted at once, and their objects one by one, by a few instructions for each.
+    #[tactic(auto, using(crate::proofs::Counted::told_low))]
+    pub fn append_all(&mut self, events: &[Event])
+        requires { length self.old.journal.list + length events.now ≤ self.old.room }
+        ensures { self.new ≡ record self.old { journal = with_events events.now self.old.journal } }
+    {
+        self.objects = objects_by_all(self.objects, events);
+        self.seat.append_all(&self.tie, events);
+        self.last.extend_from_slice(events);
+        self.count += events.len() as u64;
+    }
+
     /// Tells that the note's list is a prefix of the journal and that its share is its cell's total, so that no event has
     /// touched the cell unseen. The note has the whole journal afterwards.
     pub fn meet_in_place(&mut self, note: &mut Note)
@@ -156,6 +181,15 @@ impl Journal {
         ensures note { note.new ≡ record note.old { share = note.old.share + 1 } }
     {
         self.seat.touch_in_place(&self.tie, note);
+    }
+
+    /// Counts so many more events that touch the note's cell. Constant time.
+    pub fn touch_all_in_place(&mut self, note: &mut Note, times: u64)
+        requires { note.old.table ≡ self.old.journal.table }
+        ensures total { self.new ≡ record self.old { journal = with_touches times note.old.cell self.old.journal } }
+        ensures note { note.new ≡ record note.old { share = note.old.share + times } }
+    {
+        self.seat.touch_all_in_place(&self.tie, note, times);
     }
 
     /// Tells that two notes have different cells, and leaves both as they were.

@@ -1,5 +1,5 @@
 -- Each step keeps the rule.
-use Rattle.std.proofs.Common.{◌≡◌, ◌≢◌, ℕ, suc, ◌+◌, ◌-◌, ◌%◌, ◌^◌, ◌<◌, List, [], ◌∷◌, ◌++◌, length, set, refl, sym, ap, ◌∙◌, subst, ⊎_elim, arith, length-append}
+use Rattle.std.proofs.Common.{◌≡◌, ◌≢◌, ℕ, ◌+◌, ◌%◌, ◌^◌, ◌<◌, List, [], ◌∷◌, ◌++◌, length, replicate, set, refl, sym, ap, ◌∙◌, subst, ⊎_elim, arith, length-append}
 use Rattle.std.specs.Prelude.{slice_index}
 use Rattle.k_base.specs.k_types.Complete.{IsPrefixOf}
 use mathlib.Core.Option.{some}
@@ -12,7 +12,7 @@ use Rattle.k_tie.specs.declared.view.View.{View}
 use Rattle.k_tie.specs.declared.view.View.TheVariants.{Journal, Note, Spent}
 use Rattle.k_tie.specs.Rule.{total_of, CellFits, CellsFit, ViewFits, times_among, times_in, one_if_journal, KeepsRule, Holds}
 use Rattle.k_tie.specs.Steps.{cell_view, after_give, note_as_held, note_of_whole, after_touch, note_touched, after_take, after_append, IsToldOf}
-use Rattle.k_tie.proofs.Totals.{one_if_same-swap, prefix_longer}
+use Rattle.k_tie.proofs.Totals.{one_if_same-swap, prefix_longer, total_apart, total_touched}
 use Rattle.k_base.proofs.Places.{total_set_there, total_one, total_two}
 use Rattle.k_base.proofs.Sums.{total_push, one_if_same-same}
 use Rattle.k_base.specs.Counts.{one_if_same}
@@ -133,33 +133,33 @@ gives_whole id (Journal l t (h ∷ hs)) = λ s k at.
 gives_whole id (Note h) = nothing_given id (Note h)
 gives_whole id Spent = nothing_given id Spent
 
--- a touch of another cell
-fits_touched : (l : List Event) (t : List ℕ) (c : ℕ) (h : CellView) → one_if_same h.cell c ≡ 0 → CellFits l t h → CellFits l (c ∷ t) h
-fits_touched l t c h other f = (f.0, let z = one_if_same-swap h.cell c other in let e = f.1 in omega arith)
+-- touches of another cell
+fits_touched : (n : ℕ) (l : List Event) (t : List ℕ) (c : ℕ) (h : CellView) → one_if_same h.cell c ≡ 0 → CellFits l t h → CellFits l (replicate n c ++ t) h
+fits_touched n l t c h other f = (f.0, f.1 ∙ sym (total_apart n t c h.cell (one_if_same-swap h.cell c other)))
 
-all_touched : (l : List Event) (t : List ℕ) (c : ℕ) (hs : List CellView) → times_among c hs ≡ 0 → CellsFit l t hs → CellsFit l (c ∷ t) hs
-all_touched l t c [] none f = tt
-all_touched l t c (h ∷ hs) none f = (fits_touched l t c h (omega arith) f.0, all_touched l t c hs (omega arith) f.1)
+all_touched : (n : ℕ) (l : List Event) (t : List ℕ) (c : ℕ) (hs : List CellView) → times_among c hs ≡ 0 → CellsFit l t hs → CellsFit l (replicate n c ++ t) hs
+all_touched n l t c [] none f = tt
+all_touched n l t c (h ∷ hs) none f = (fits_touched n l t c h (omega arith) f.0, all_touched n l t c hs (omega arith) f.1)
 
-pub touches_it : (id : ℕ) (v : View) → Splits Holds id v (after_touch v) (note_touched v)
-touches_it id (Journal l t []) = nothing_given id (Journal l t [])
-touches_it id (Journal l t (h ∷ hs)) = λ s k at.
+pub touches_it : (n id : ℕ) (v : View) → Splits Holds id v (after_touch n v) (note_touched n v)
+touches_it n id (Journal l t []) = nothing_given id (Journal l t [])
+touches_it n id (Journal l t (h ∷ hs)) = λ s k at.
     let v = Journal l t (h ∷ hs) in
     let c = h.cell in
     let f = k.fits id v at in
     let here : one_if_same h.cell c ≡ 1 = one_if_same-same c in
     let once = k.distinct c in
     let mine = total_one (times_in c) s.views id v at in
-    let ts : c ∷ t ≡ c ∷ k.touches = ap (λ (m : List ℕ). c ∷ m) f.1 in
-    let share : suc h.share ≡ total_of (c ∷ k.touches) c = let e = f.2.0.1 in omega arith in
-    kept_split s.words s.views k (c ∷ k.touches) id v (Journal l (c ∷ t) hs) (Note (cell_view c h.list (suc h.share))) at refl (λ d. omega arith)
-    (λ j u n e. others_fit k.list k.list k.touches (c ∷ k.touches) u (no_other s.words s.views k id j l t (h ∷ hs) u at n e)
-    (λ g is fits. fits_touched k.list k.touches c g (let two = total_two (times_in c) s.views id j v u at e n in let same : times_in c u ≡ one_if_same g.cell c = ap (times_in c) is in omega arith) fits)
+    let ts : replicate n c ++ t ≡ replicate n c ++ k.touches = ap (λ (m : List ℕ). replicate n c ++ m) f.1 in
+    let share : h.share + n ≡ total_of (replicate n c ++ k.touches) c = ap (λ m. m + n) f.2.0.1 ∙ sym (total_touched n k.touches c) in
+    kept_split s.words s.views k (replicate n c ++ k.touches) id v (Journal l (replicate n c ++ t) hs) (Note (cell_view c h.list (h.share + n))) at refl (λ d. omega arith)
+    (λ j u ne e. others_fit k.list k.list k.touches (replicate n c ++ k.touches) u (no_other s.words s.views k id j l t (h ∷ hs) u at ne e)
+    (λ g is fits. fits_touched n k.list k.touches c g (let two = total_two (times_in c) s.views id j v u at e ne in let same : times_in c u ≡ one_if_same g.cell c = ap (times_in c) is in omega arith) fits)
     (k.fits j u e))
-    (f.0, ts, all_touched k.list k.touches c hs (omega arith) f.2.1)
+    (f.0, ts, all_touched n k.list k.touches c hs (omega arith) f.2.1)
     (f.2.0.0, share)
-touches_it id (Note h) = nothing_given id (Note h)
-touches_it id Spent = nothing_given id Spent
+touches_it n id (Note h) = nothing_given id (Note h)
+touches_it n id Spent = nothing_given id Spent
 
 joined : (s : State (Unit {0}) View) (k : Holds s) (id other : ℕ) (l : List Event) (t : List ℕ) (hs : List CellView) (u : View)
     → get_elem? s.views id ≡ some (Journal l t hs) → other ≢ id → get_elem? (set s.views id (after_take (Journal l t hs) u)) other ≡ some u
@@ -180,28 +180,28 @@ takes id other v u l t hs is =
     let P : View → Type 0 = λ x. Joins Holds id x other u (after_take x u) Spent in
     subst P (sym is) (λ s k at n there. joined s k id other l t hs u at n there)
 
--- an event is added
-pub append_allows : (slots : ℕ) (e : Event) (id : ℕ) (me : Me (Unit {0}) View) (l : List Event) (t : List ℕ) → me.0 ≡ Journal l t [] → length l < 2 ^ 64 - 1
-    → Allows Holds slots id me 0 (λ n. (n + 1) % 2 ^ 64) (λ _ w. w ≡ (after_append e me.0, me.1))
-append_allows slots e id me l t is room s h counts at fits =
-    let w = Journal (l ++ e ∷ []) t [] in
+-- events are added
+pub append_allows : (slots : ℕ) (es : List Event) (k : ℕ) (id : ℕ) (me : Me (Unit {0}) View) (l : List Event) (t : List ℕ) → me.0 ≡ Journal l t [] → k ≡ length es → length l + length es < 2 ^ 64
+    → Allows Holds slots id me 0 (λ n. (n + k) % 2 ^ 64) (λ _ w. w ≡ (after_append es me.0, me.1))
+append_allows slots es k id me l t is number room s h counts at fits =
+    let w = Journal (l ++ es) t [] in
     let at' : get_elem? s.views id ≡ some (Journal l t []) = at ∙ ap some is in
-    (w, keeps, tt, grown s h at', (λ i. (ap (after_append e) (sym is) i, me.1)))
+    (w, keeps, tt, grown s h at', (λ i. (ap (after_append es) (sym is) i, me.1)))
   where
     grown : (s : State (Unit {0}) View) (h : Holds s) → get_elem? s.views id ≡ some (Journal l t [])
-        → KeepsRule (set s.words 0 ((slice_index s.words 0 + 1) % 2 ^ 64)) (set s.views id (Journal (l ++ e ∷ []) t []))
+        → KeepsRule (set s.words 0 ((slice_index s.words 0 + k) % 2 ^ 64)) (set s.views id (Journal (l ++ es) t []))
     grown s h at =
         let f = h.fits id (Journal l t []) at in
         let v = Journal l t [] in
-        let w = Journal (l ++ e ∷ []) t [] in
-        let l' = h.list ++ e ∷ [] in
-        let k = kept_set s.words s.views h l' h.touches id v w at refl (λ c. refl)
-        (λ j u n at'. others_fit h.list l' h.touches h.touches u (no_other s.words s.views h id j l t [] u at n at') (λ g _ fits. (prefix_longer g.list h.list e fits.0, fits.1)) (h.fits j u at'))
-        (ap (λ (m : List Event). m ++ e ∷ []) f.0, f.1, tt) in
-        let P : List ℕ → Type 0 = λ ws. KeepsRule (set ws 0 ((slice_index ws 0 + 1) % 2 ^ 64)) (set s.views id w) in
-        let few : length h.list < 2 ^ 64 - 1 = subst (λ (m : List Event). length m < 2 ^ 64 - 1) f.0 room in
-        let n : length l' ≡ (length h.list + 1) % 2 ^ 64 = wrapped (length h.list) (length l') (length-append h.list (e ∷ [])) few in
-        subst P (sym h.word) (subst (λ (m : ℕ). KeepsRule (m ∷ []) (set s.views id w)) n k)
+        let w = Journal (l ++ es) t [] in
+        let l' = h.list ++ es in
+        let kept = kept_set s.words s.views h l' h.touches id v w at refl (λ c. refl)
+        (λ j u n at'. others_fit h.list l' h.touches h.touches u (no_other s.words s.views h id j l t [] u at n at') (λ g _ fits. (prefix_longer g.list h.list es fits.0, fits.1)) (h.fits j u at'))
+        (ap (λ (m : List Event). m ++ es) f.0, f.1, tt) in
+        let P : List ℕ → Type 0 = λ ws. KeepsRule (set ws 0 ((slice_index ws 0 + k) % 2 ^ 64)) (set s.views id w) in
+        let few : length h.list + length es < 2 ^ 64 = subst (λ (m : List Event). length m + length es < 2 ^ 64) f.0 room in
+        let n : length l' ≡ (length h.list + k) % 2 ^ 64 = wrapped (length h.list) (length es) k (length l') (length-append h.list es) number few in
+        subst P (sym h.word) (subst (λ (m : ℕ). KeepsRule (m ∷ []) (set s.views id w)) n kept)
       where
-        wrapped : (n m : ℕ) → m ≡ n + 1 → n < 2 ^ 64 - 1 → m ≡ (n + 1) % 2 ^ 64
-        wrapped n m e lt = omega arith
+        wrapped : (n more k m : ℕ) → m ≡ n + more → k ≡ more → n + more < 2 ^ 64 → m ≡ (n + k) % 2 ^ 64
+        wrapped n more k m e same lt = omega arith

@@ -1,11 +1,12 @@
 //! The journal's seat, which alone adds events and sends notes out.
-ghost use Rattle.std.specs.Prelude.{◌≡◌, ◌+◌, ◌-◌, ◌^◌, ◌<◌, ◌≢◌, [], ◌∷◌, ◌++◌, length};
+ghost use Rattle.std.specs.Prelude.{◌≡◌, ◌+◌, ◌-◌, ◌^◌, ◌<◌, ◌≢◌, [], ◌∷◌, ◌++◌, length, replicate};
 ghost use Rattle.k_base.specs.k_types.Complete.{IsPrefixOf};
 ghost use Rattle.k_tie.specs.Rule.{total_of};
 
 use crate::note::Note;
 use crate::steps::{
-    AppendEvent, AppendedEvent, GiveNote, GiveTouchedNote, GiveWholeNote, ReadCells, TakeNote,
+    AppendEvents, AppendedEvents, GiveNote, GiveTouchedNote, GiveWholeNote, Once, ReadCells,
+    TakeNote, TouchedTimes,
 };
 use crate::tie::Tie;
 use crate::view::View;
@@ -13,6 +14,7 @@ use atomic_table::Seat;
 use k_base::Event;
 use std::marker::{Brand, Model};
 use std::mem::replace;
+use std::slice::from_ref;
 
 /// The seat of the journal, which knows the whole list of events and each cell's total, the number of events that touch
 /// the cell. It takes no bytes, and each of its calls is a few loads or one addition on the journal's word.
@@ -40,18 +42,31 @@ impl JournalSeat {
         requires room { length self.old.list < 2 ^ 64 - 1 }
         ensures { self.new ≡ record self.old { list = self.old.list ++ event.now ∷ [] } }
     {
-        self.append_as::<Brand>(tie, event)
+        self.append_as::<Brand>(tie, from_ref(event))
     }
 
-    fn append_as<E: AppendedEvent>(&mut self, tie: &Tie, event: &Event)
-        requires event { event.now ≡ E.event }
+    /// Adds these events to the journal in order, by one addition on the word, whatever their number. Totals stay, as with
+    /// `append`.
+    #[inline]
+    pub fn append_all(&mut self, tie: &Tie, events: &[Event])
         requires table { self.old.table ≡ tie.now }
-        requires room { length self.old.list < 2 ^ 64 - 1 }
-        ensures { self.new ≡ record self.old { list = self.old.list ++ E.event ∷ [] } }
+        requires room { length self.old.list + length events.now < 2 ^ 64 }
+        ensures { self.new ≡ record self.old { list = self.old.list ++ events.now } }
     {
+        self.append_as::<Brand>(tie, events)
+    }
+
+    #[inline]
+    fn append_as<E: AppendedEvents>(&mut self, tie: &Tie, events: &[Event])
+        requires events { events.now ≡ E.events }
+        requires table { self.old.table ≡ tie.now }
+        requires room { length self.old.list + length E.events < 2 ^ 64 }
+        ensures { self.new ≡ record self.old { list = self.old.list ++ E.events } }
+    {
+        let number = events.len() as u64;
         tie.table
             .shared
-            .fetch_add::<AppendEvent<E>>(&mut self.seat, 0, 1);
+            .fetch_add::<AppendEvents<E>>(&mut self.seat, 0, number);
     }
 
     /// Tells that the note's list is a prefix of the journal and that its share is its cell's total, so that no event has
@@ -97,7 +112,7 @@ impl JournalSeat {
         let Note { seat } = note;
         shared.join_seat::<TakeNote>(&mut self.seat, seat);
         shared.load::<ReadCells>(&mut self.seat, 0);
-        let given = shared.split_seat::<GiveTouchedNote>(&mut self.seat);
+        let given = shared.split_seat::<GiveTouchedNote<Once>>(&mut self.seat);
         Note { seat: given }
     }
 
@@ -107,12 +122,32 @@ impl JournalSeat {
         ensures seat { self.new ≡ record self.old { touches = note.old.cell ∷ self.old.touches } }
         ensures note { note.new ≡ record note.old { share = note.old.share + 1 } }
     {
+        self.touch_as::<Once>(tie, note, 1)
+    }
+
+    /// Counts so many more events that touch the note's cell. The cost is that of one touch.
+    #[inline]
+    pub fn touch_all_in_place(&mut self, tie: &Tie, note: &mut Note, times: u64)
+        requires { (self.old.table ≡ tie.now) × (note.old.table ≡ tie.now) }
+        ensures seat { self.new ≡ record self.old { touches = replicate times note.old.cell ++ self.old.touches } }
+        ensures note { note.new ≡ record note.old { share = note.old.share + times } }
+    {
+        self.touch_as::<Brand>(tie, note, times)
+    }
+
+    #[inline]
+    fn touch_as<T: TouchedTimes>(&mut self, tie: &Tie, note: &mut Note, times: u64)
+        requires times { times ≡ T.times }
+        requires table { (self.old.table ≡ tie.now) × (note.old.table ≡ tie.now) }
+        ensures seat { self.new ≡ record self.old { touches = replicate T.times note.old.cell ++ self.old.touches } }
+        ensures note { note.new ≡ record note.old { share = note.old.share + T.times } }
+    {
         let shared = &tie.table.shared;
         let spare = shared.split_seat::<GiveNote>(&mut self.seat);
         let seat = replace(&mut note.seat, spare);
         shared.join_seat::<TakeNote>(&mut self.seat, seat);
         shared.load::<ReadCells>(&mut self.seat, 0);
-        note.seat = shared.split_seat::<GiveTouchedNote>(&mut self.seat);
+        note.seat = shared.split_seat::<GiveTouchedNote<T>>(&mut self.seat);
     }
 
     /// Tells that two notes have different cells, and gives both back as they were.

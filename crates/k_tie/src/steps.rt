@@ -1,7 +1,6 @@
 //! The rule of the journal's table, and the kinds of step on its word.
 use crate::view::View;
 use atomic_table::{Join, Play, Split, TableRule};
-use k_base::Event;
 use std::marker::{Brand, PhantomData};
 
 /// The rule: the word is the length of the journal, and each note has a prefix of it and its cell's total.
@@ -38,15 +37,36 @@ impl Split<View> for GiveWholeNote {
     ghost right = { note_of_whole };
 }
 
-/// A split: the first cell in hand is touched once more and becomes a note.
-pub struct GiveTouchedNote;
+/// How often a cell is touched.
+pub trait TouchedTimes {
+    ghost use Rattle.std.specs.Prelude.{ℕ};
 
-impl Split<View> for GiveTouchedNote {
+    ghost times: { ℕ };
+}
+
+/// One touch.
+pub struct Once;
+
+impl TouchedTimes for Once {
+    ghost times = { 1 };
+}
+
+// Each call picks it.
+impl TouchedTimes for Brand {
+    ghost times = { 0 };
+}
+
+/// A split: the first cell in hand is touched so often and becomes a note.
+pub struct GiveTouchedNote<T: TouchedTimes> {
+    of: PhantomData<T>,
+}
+
+impl<T: TouchedTimes> Split<View> for GiveTouchedNote<T> {
     ghost use Rattle.k_tie.specs.Steps.{after_touch, note_touched};
 
-    ghost left = { after_touch };
+    ghost left = { after_touch T.times };
 
-    ghost right = { note_touched };
+    ghost right = { note_touched T.times };
 }
 
 /// A join: the journal's seat takes a note's cell in hand.
@@ -70,26 +90,28 @@ impl Play<(), View> for ReadCells {
     ghost then = { Reads };
 }
 
-/// The event that an append adds. Each call picks it.
-pub trait AppendedEvent {
+/// The events that an append adds.
+pub trait AppendedEvents {
+    ghost use Rattle.std.specs.Prelude.{List};
     ghost use Rattle.k_base.specs.k_types.declared.event.Event.{Event};
 
-    ghost event: { Event };
+    ghost events: { List Event };
 }
 
-impl AppendedEvent for Brand {
-    ghost use Rattle.k_base.specs.k_types.declared.event.Event.TheVariants.{Closing};
+// Each call picks them.
+impl AppendedEvents for Brand {
+    ghost use Rattle.std.specs.Prelude.{[]};
 
-    ghost event = { Closing };
+    ghost events = { [] };
 }
 
-/// An addition of one, by which the journal gets the event.
-pub struct AppendEvent<E: AppendedEvent> {
+/// An addition of their number, by which the journal gets the events.
+pub struct AppendEvents<E: AppendedEvents> {
     of: PhantomData<E>,
 }
 
-impl<E: AppendedEvent> Play<(), View> for AppendEvent<E> {
+impl<E: AppendedEvents> Play<(), View> for AppendEvents<E> {
     ghost use Rattle.k_tie.specs.Steps.{Appends};
 
-    ghost then = { Appends E.event };
+    ghost then = { Appends E.events };
 }

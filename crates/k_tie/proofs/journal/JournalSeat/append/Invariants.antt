@@ -1,4 +1,4 @@
 use Rattle.k_tie.proofs.journal.JournalSeat.append.Given as goal
 
 abbrev pub ghosts-append_as : goal.ghosts-append_as
-ghosts-append_as a = record { event = a.event.now }
+ghosts-append_as a = record { events = a.events.now }

@@ -21,4 +21,4 @@ load-requires c =
 pub split_seat-given-requires : goal.split_seat-given-requires
 split_seat-given-requires c =
     let at = of_journal _ _ _ _ c.self.view_is (c.requires.0 ∙ sym c.tie.view_is) in
-    (c.load.ensures.0 ∙ (c.join_seat.ensures.0 ∙ at), has_word _ c.tie.invariant, touches_it _ _)
+    (c.load.ensures.0 ∙ (c.join_seat.ensures.0 ∙ at), has_word _ c.tie.invariant, touches_it 1 _ _)
