@@ -3,7 +3,7 @@ use Rattle.std.proofs.Common.{◌≡◌, ◌≢◌, ◌⊎◌, ℕ, zero, suc, �
 use Rattle.std.proofs.lemmas.Bool.{cases_eq, false≢true}
 use Rattle.std.proofs.lemmas.List.Sums.{sum_by-cons}
 use Rattle.std.proofs.lemmas.List.{get_or-set_same, get_or-set_other, length-set}
-use Rattle.slab.specs.Slab.{Slab, get}
+use Rattle.k_space.specs.Cells.{CellsValue, get}
 use Rattle.k_base.proofs.Lists.{some_inside}
 use Rattle.k_base.specs.k_types.Totals.{total}
 use Rattle.k_base.specs.k_types.declared.names.Name.{Name}
@@ -11,7 +11,7 @@ use Rattle.k_space.specs.declared.marks.Place.{Place}
 use Rattle.k_space.specs.declared.marks.Place.TheVariants.{Empty, At}
 use Rattle.k_space.specs.declared.marks.Mark.{Mark}
 use Rattle.k_space.specs.declared.marks.Mark.TheVariants.{White as MarkWhite, Gray as MarkGray, Black as MarkBlack}
-use Rattle.k_space.specs.declared.segment.Cell.{Cell}
+use Rattle.k_space.specs.declared.cells.Cell.{Cell}
 use Rattle.k_space.specs.Segments.{Row, SegmentValue, row_at, some_gray, blackened_row, blackened_rows}
 use Rattle.k_space.specs.Areas.{HasDistinct, row_in_segment, row_of_name, segment_at}
 use Rattle.k_space.specs.Places.{row_of, row_in, row_bytes, AreBytes, IsSound, IsGrayList, IsLastGray, is_gray_place, is_taken, is_white_place, black_place, black_places}
@@ -170,7 +170,7 @@ none_counted (p ∷ places) plain =
     omega (arith, sum_by-cons (λ x. bit (is_gray_place x)) p places, off, none_counted places (λ j. plain (suc j)))
 
 -- no place is gray where no row is
-pub places_plain : (number room capacity : ℕ) (places : List Place) (cells : Slab Cell) (head : ℕ) (s : SegmentValue) → IsSound places cells room capacity head → record { number = number; room = room; rows = map (row_of cells) places } ≡ s →
+pub places_plain : (number room capacity : ℕ) (places : List Place) (cells : CellsValue) (head : ℕ) (s : SegmentValue) → IsSound places cells room capacity head → record { number = number; room = room; rows = map (row_of cells) places } ≡ s →
     ((serial : ℕ) → some_gray (row_at s serial) ≡ false) → (j : ℕ) → is_gray_place (get_or places j Empty) ≡ false
 places_plain number room capacity places cells head s sound is none j = by_place (get_or places j Empty) refl
   where
@@ -195,7 +195,7 @@ taken_black (suc n) (p ∷ places) =
     one Empty = refl
     one (At slot mark) = refl
 
-pub blackened_sound : (n : ℕ) (places : List Place) (cells : Slab Cell) (room capacity : ℕ) (head : ℕ) → IsSound places cells room capacity head → ((j : ℕ) → is_gray_place (get_or places j Empty) ≡ false) → IsSound (black_places n places) cells room capacity 0
+pub blackened_sound : (n : ℕ) (places : List Place) (cells : CellsValue) (room capacity : ℕ) (head : ℕ) → IsSound places cells room capacity head → ((j : ℕ) → is_gray_place (get_or places j Empty) ≡ false) → IsSound (black_places n places) cells room capacity 0
 blackened_sound n places cells room capacity head sound plain =
     record {
       first = black_empty n places 0 sound.first;
@@ -210,7 +210,7 @@ pub last_blackened : (n : ℕ) (places : List Place) (last : ℕ) → ((j : ℕ)
 last_blackened n places last plain = λ i slot e. absurd (false≢true (sym (still_plain n places plain i) ∙ ap is_gray_place e))
 
 -- its bytes, its list and its rows
-black_bytes : (cells : Slab Cell) (p : Place) → row_bytes (row_of cells (black_place p)) ≡ row_bytes (row_of cells p)
+black_bytes : (cells : CellsValue) (p : Place) → row_bytes (row_of cells (black_place p)) ≡ row_bytes (row_of cells p)
 black_bytes cells Empty = refl
 black_bytes cells (At slot mark) = by_cell (get cells slot)
   where
@@ -218,12 +218,12 @@ black_bytes cells (At slot mark) = by_cell (get cells slot)
     by_cell None = refl
     by_cell (Some cell) = refl
 
-total_blackened : (n : ℕ) (places : List Place) (cells : Slab Cell) → total row_bytes (map (row_of cells) (black_places n places)) ≡ total row_bytes (map (row_of cells) places)
+total_blackened : (n : ℕ) (places : List Place) (cells : CellsValue) → total row_bytes (map (row_of cells) (black_places n places)) ≡ total row_bytes (map (row_of cells) places)
 total_blackened zero places cells = refl
 total_blackened (suc n) [] cells = refl
 total_blackened (suc n) (p ∷ places) cells = omega (arith, black_bytes cells p, total_blackened n places cells)
 
-pub bytes_blackened : (n : ℕ) (places : List Place) (cells : Slab Cell) (bytes : ℕ) → AreBytes places cells bytes → AreBytes (black_places n places) cells bytes
+pub bytes_blackened : (n : ℕ) (places : List Place) (cells : CellsValue) (bytes : ℕ) → AreBytes places cells bytes → AreBytes (black_places n places) cells bytes
 bytes_blackened n places cells bytes was = record { counted = was.counted ∙ sym (total_blackened n places cells); small = omega (arith, was.small, length-black n places) }
 
 black_dark : (p : Place) → is_white_place (black_place p) ≡ false
@@ -243,7 +243,7 @@ listed_blackened n places new live passed front was black is at_front = record {
       ∙ black_dark (get_or places (get_or live k 0) Empty);
 }
 
-black_shown : (cells : Slab Cell) (p : Place) → row_of cells (black_place p) ≡ blackened_row (row_of cells p)
+black_shown : (cells : CellsValue) (p : Place) → row_of cells (black_place p) ≡ blackened_row (row_of cells p)
 black_shown cells Empty = refl
 black_shown cells (At slot mark) = by_cell (get cells slot)
   where
@@ -251,7 +251,7 @@ black_shown cells (At slot mark) = by_cell (get cells slot)
     by_cell None = refl
     by_cell (Some cell) = refl
 
-pub blackened_shown : (n : ℕ) (cells : Slab Cell) (places : List Place) → map (row_of cells) (black_places n places) ≡ blackened_rows n (map (row_of cells) places)
+pub blackened_shown : (n : ℕ) (cells : CellsValue) (places : List Place) → map (row_of cells) (black_places n places) ≡ blackened_rows n (map (row_of cells) places)
 blackened_shown zero cells places = refl
 blackened_shown (suc n) cells [] = refl
 blackened_shown (suc n) cells (p ∷ places) = ap₂ (λ y ys. y ∷ ys) (black_shown cells p) (blackened_shown n cells places)

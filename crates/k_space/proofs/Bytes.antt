@@ -4,7 +4,7 @@ use Rattle.k_base.proofs.Sums.{total_set, total_push}
 use Rattle.std.proofs.Math.ListN.{get_or-map}
 use Rattle.std.proofs.lemmas.Bool.{cases_eq}
 use Rattle.std.proofs.lemmas.List.{length-set, length-append, get_or-set_other, get_or-set_same, map-set, map-append, length-map}
-use Rattle.slab.specs.Slab.{Slab, get, with_value}
+use Rattle.k_space.specs.Cells.{CellsValue, get, with_cell}
 use Rattle.k_base.specs.k_types.Totals.{total}
 use Rattle.k_base.specs.k_types.Types.{object_size}
 use Rattle.k_base.specs.k_types.Owners.{object_bytes}
@@ -12,7 +12,7 @@ use Rattle.k_space.specs.declared.marks.Place.{Place}
 use Rattle.k_space.specs.declared.marks.Place.TheVariants.{Empty, At}
 use Rattle.k_space.specs.declared.marks.Mark.{Mark}
 use Rattle.k_space.specs.declared.marks.Mark.TheVariants.{White as MarkWhite}
-use Rattle.k_space.specs.declared.segment.Cell.{Cell}
+use Rattle.k_space.specs.declared.cells.Cell.{Cell}
 use Rattle.k_space.specs.Segments.{Row, objects_from}
 use Rattle.k_space.specs.Places.{row_of, row_in, row_bytes, AreBytes, white_place}
 use Rattle.k_space.proofs.GrayLists.{At_inside}
@@ -32,7 +32,7 @@ recolored_bytes slot m n None = refl
 recolored_bytes slot m n (Some cell) = refl
 
 -- another mark at one place
-pub bytes_recolored : (places : List Place) (cells : Slab Cell) (bytes i slot : ℕ) (m n : Mark) → AreBytes places cells bytes → get_or places i Empty ≡ At slot m → AreBytes (set places i (At slot n)) cells bytes
+pub bytes_recolored : (places : List Place) (cells : CellsValue) (bytes i slot : ℕ) (m n : Mark) → AreBytes places cells bytes → get_or places i Empty ≡ At slot m → AreBytes (set places i (At slot n)) cells bytes
 bytes_recolored places cells bytes i slot m n was here =
     let rows : map (row_of cells) (set places i (At slot n)) ≡ set (map (row_of cells) places) i (row_in slot n (get cells slot)) = map-set (row_of cells) places i (At slot n) in
     let mapped : length (map (row_of cells) places) ≡ length places = length-map places (row_of cells) in
@@ -46,15 +46,15 @@ bytes_recolored places cells bytes i slot m n was here =
     }
 
 -- no marks
-white_bytes : (cells : Slab Cell) (p : Place) → row_bytes (row_of cells (white_place p)) ≡ row_bytes (row_of cells p)
+white_bytes : (cells : CellsValue) (p : Place) → row_bytes (row_of cells (white_place p)) ≡ row_bytes (row_of cells p)
 white_bytes cells Empty = refl
 white_bytes cells (At slot mark) = recolored_bytes slot MarkWhite mark (get cells slot)
 
-total_whitened : (places : List Place) (cells : Slab Cell) → total row_bytes (map (row_of cells) (map white_place places)) ≡ total row_bytes (map (row_of cells) places)
+total_whitened : (places : List Place) (cells : CellsValue) → total row_bytes (map (row_of cells) (map white_place places)) ≡ total row_bytes (map (row_of cells) places)
 total_whitened [] cells = refl
 total_whitened (p ∷ places) cells = omega (arith, white_bytes cells p, total_whitened places cells)
 
-pub bytes_whitened : (places : List Place) (cells : Slab Cell) (bytes : ℕ) → AreBytes places cells bytes → AreBytes (map white_place places) cells bytes
+pub bytes_whitened : (places : List Place) (cells : CellsValue) (bytes : ℕ) → AreBytes places cells bytes → AreBytes (map white_place places) cells bytes
 bytes_whitened places cells bytes was =
     record {
       counted = was.counted ∙ sym (total_whitened places cells);
@@ -62,20 +62,20 @@ bytes_whitened places cells bytes was =
     }
 
 -- another body of as many fields in one slot
-pub bytes_rewritten : (places : List Place) (cells : Slab Cell) (bytes slot : ℕ) (cell new : Cell) → AreBytes places cells bytes → get cells slot ≡ Some cell → length new.body.fields ≡ length cell.body.fields → slot < length cells.slots →
-    AreBytes places (with_value cells slot new) bytes
+pub bytes_rewritten : (places : List Place) (cells : CellsValue) (bytes slot : ℕ) (cell new : Cell) → AreBytes places cells bytes → get cells slot ≡ Some cell → length new.body.fields ≡ length cell.body.fields → slot < length cells.slots →
+    AreBytes places (with_cell cells slot new) bytes
 bytes_rewritten places cells bytes slot cell new was found fields inside =
     record {
-      counted = was.counted ∙ sym (total-maps row_bytes (row_of (with_value cells slot new)) (row_of cells) places each);
+      counted = was.counted ∙ sym (total-maps row_bytes (row_of (with_cell cells slot new)) (row_of cells) places each);
       small = was.small;
     }
   where
-    each : (p : Place) → row_bytes (row_of (with_value cells slot new) p) ≡ row_bytes (row_of cells p)
+    each : (p : Place) → row_bytes (row_of (with_cell cells slot new) p) ≡ row_bytes (row_of cells p)
     each Empty = refl
     each (At t mark) =
         elim (cases_eq t slot) [
           | inl same ↦
-              ap (λ k. row_bytes (row_in t mark (get (with_value cells slot new) k))) same
+              ap (λ k. row_bytes (row_in t mark (get (with_cell cells slot new) k))) same
               ∙ ap (λ o. row_bytes (row_in t mark o)) (get_or-set_same cells.slots slot (Some new) None inside)
               ∙ ap object_size fields
               ∙ sym (ap (λ k. row_bytes (row_in t mark (get cells k))) same ∙ ap (λ o. row_bytes (row_in t mark o)) found)
@@ -83,7 +83,7 @@ bytes_rewritten places cells bytes slot cell new was found fields inside =
         ]
 
 -- one object more
-pub bytes_pushed : (places : List Place) (cells after : Slab Cell) (bytes slot : ℕ) (cell : Cell) → AreBytes places cells bytes → map (row_of after) places ≡ map (row_of cells) places → get after slot ≡ Some cell → object_size (length cell.body.fields) ≤ 144 →
+pub bytes_pushed : (places : List Place) (cells after : CellsValue) (bytes slot : ℕ) (cell : Cell) → AreBytes places cells bytes → map (row_of after) places ≡ map (row_of cells) places → get after slot ≡ Some cell → object_size (length cell.body.fields) ≤ 144 →
     AreBytes (places ++ At slot MarkWhite ∷ []) after (bytes + object_size (length cell.body.fields))
 bytes_pushed places cells after bytes slot cell was old here most =
     let rows : map (row_of after) (places ++ At slot MarkWhite ∷ []) ≡ map (row_of cells) places ++ row_in slot MarkWhite (Some cell) ∷ [] =
@@ -95,11 +95,11 @@ bytes_pushed places cells after bytes slot cell was old here most =
       small = omega (arith, was.small, most, length-append places (At slot MarkWhite ∷ []));
     }
 
-pub size_there : (places : List Place) (cells : Slab Cell) (i slot : ℕ) (mark : Mark) (cell : Cell) → get_or places i Empty ≡ At slot mark → get cells slot ≡ Some cell → row_bytes (row_of cells (get_or places i Empty)) ≡ object_size (length cell.body.fields)
+pub size_there : (places : List Place) (cells : CellsValue) (i slot : ℕ) (mark : Mark) (cell : Cell) → get_or places i Empty ≡ At slot mark → get cells slot ≡ Some cell → row_bytes (row_of cells (get_or places i Empty)) ≡ object_size (length cell.body.fields)
 size_there places cells i slot mark cell here found = ap (λ p. row_bytes (row_of cells p)) here ∙ ap (λ o. row_bytes (row_in slot mark o)) found
 
 -- one object less
-pub bytes_freed : (places : List Place) (cells after : Slab Cell) (bytes i size : ℕ) → AreBytes places cells bytes → map (row_of after) (set places i Empty) ≡ set (map (row_of cells) places) i None → i < length places → row_bytes (row_of cells (get_or places i Empty)) ≡ size →
+pub bytes_freed : (places : List Place) (cells after : CellsValue) (bytes i size : ℕ) → AreBytes places cells bytes → map (row_of after) (set places i Empty) ≡ set (map (row_of cells) places) i None → i < length places → row_bytes (row_of cells (get_or places i Empty)) ≡ size →
     (size ≤ bytes) × ((rest : ℕ) → rest + size ≡ bytes → AreBytes (set places i Empty) after rest)
 bytes_freed places cells after bytes i size was rows within had =
     let mapped : length (map (row_of cells) places) ≡ length places = length-map places (row_of cells) in

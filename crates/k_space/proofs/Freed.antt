@@ -3,12 +3,12 @@ use Rattle.std.proofs.Common.{◌≡◌, ◌≢◌, ℕ, zero, suc, ◌+◌, ◌
 use Rattle.std.proofs.lemmas.Bool.{cases_eq}
 use Rattle.std.proofs.lemmas.List.Sums.{sum_by-cons}
 use Rattle.std.proofs.lemmas.List.{get_or-set_same, get_or-set_other, length-set, map-set, length-map}
-use Rattle.slab.specs.Slab.{Slab, get, slab_len, Updates}
+use Rattle.k_space.specs.Cells.{CellsValue, get, count_held, ChangesAt}
 use Rattle.k_space.specs.declared.marks.Place.{Place}
 use Rattle.k_space.specs.declared.marks.Place.TheVariants.{Empty, At}
 use Rattle.k_space.specs.declared.marks.Mark.{Mark}
 use Rattle.k_space.specs.declared.marks.Mark.TheVariants.{White as MarkWhite, Gray as MarkGray, Black as MarkBlack}
-use Rattle.k_space.specs.declared.segment.Cell.{Cell}
+use Rattle.k_space.specs.declared.cells.Cell.{Cell}
 use Rattle.k_space.specs.declared.segment.Gone.{Gone}
 use Rattle.k_base.specs.k_types.Types.{object_size}
 use Rattle.k_space.specs.Segments.{White, Row, SegmentValue, row_at, with_row, is_marked}
@@ -27,8 +27,8 @@ count_none (x ∷ xs) zero cell e =
 count_none (x ∷ xs) (suc key) cell e =
     omega (arith, sum_by-cons (λ (o : Option Cell). bit (is_some o)) x xs, sum_by-cons (λ (o : Option Cell). bit (is_some o)) x (set xs key None), count_none xs key cell e)
 
-pub freed : (places : List Place) (cells after : Slab Cell) (room capacity : ℕ) (head : ℕ) (i slot : ℕ) (cell : Cell) → IsSound places cells room capacity head → get_or places i Empty ≡ At slot MarkWhite → get cells slot ≡ Some cell →
-    Updates cells after slot None → slab_len after + 1 ≡ slab_len cells → after.capacity ≡ cells.capacity → IsSound (set places i Empty) after room capacity head
+pub freed : (places : List Place) (cells after : CellsValue) (room capacity : ℕ) (head : ℕ) (i slot : ℕ) (cell : Cell) → IsSound places cells room capacity head → get_or places i Empty ≡ At slot MarkWhite → get cells slot ≡ Some cell →
+    ChangesAt cells after slot None → count_held after + 1 ≡ count_held cells → after.capacity ≡ cells.capacity → IsSound (set places i Empty) after room capacity head
 freed places cells after room capacity head i slot cell sound here found updates len stays =
     let not_first : 0 ≢ i = λ e. apart e in
     record {
@@ -39,7 +39,7 @@ freed places cells after room capacity head i slot cell sound here found updates
         counted = omega (arith, len, sound.sized.counted, taken_freed places i slot MarkWhite here);
         within = omega (arith, len, sound.sized.within);
         fits = omega (arith, stays, sound.sized.fits);
-        slots = sound.sized.slots ∙ sym stays;
+        slots = omega (arith, stays, sound.sized.slots);
         keys = omega (arith, stays, sound.sized.keys);
       };
       placed = placed_after;
@@ -88,7 +88,7 @@ freed places cells after room capacity head i slot cell sound here found updates
     kept_after : (s : ℕ) (x : Cell) → get after s ≡ Some x → IsKept (set places i Empty) s x
     kept_after s x e =
         elim (cases_eq s slot) [
-          | inl same ↦ let none : None ≡ Some x = sym updates.changed ∙ ap (get after) (sym same) ∙ e in absurd (cc)
+          | inl same ↦ let none : None ≡ Some x = sym updates.there ∙ ap (get after) (sym same) ∙ e in absurd (cc)
           | inr differs ↦
               let was = sound.kept s x (sym (updates.others s differs) ∙ e) in
               let other : x.serial.0 ≢ i = λ same.
@@ -97,8 +97,8 @@ freed places cells after room capacity head i slot cell sound here found updates
         ]
 
 -- what a contract sees of it
-pub freed_rows : (places : List Place) (cells after : Slab Cell) (room capacity : ℕ) (head : ℕ) (i slot : ℕ) (mark : Mark) → IsSound places cells room capacity head → get_or places i Empty ≡ At slot mark →
-    Updates cells after slot None → map (row_of after) (set places i Empty) ≡ set (map (row_of cells) places) i None
+pub freed_rows : (places : List Place) (cells after : CellsValue) (room capacity : ℕ) (head : ℕ) (i slot : ℕ) (mark : Mark) → IsSound places cells room capacity head → get_or places i Empty ≡ At slot mark →
+    ChangesAt cells after slot None → map (row_of after) (set places i Empty) ≡ set (map (row_of cells) places) i None
 freed_rows places cells after room capacity head i slot mark sound here updates =
     map-set (row_of after) places i Empty ∙ sets (map (row_of after) places) (map (row_of cells) places) (length-map places (row_of after) ∙ sym (length-map places (row_of cells))) agree
   where
@@ -125,16 +125,16 @@ other_mark slot (MarkGray next) e = refl
 other_mark slot MarkBlack e = refl
 
 -- what the freed object was
-freed_view : (number room : ℕ) (places : List Place) (cells after : Slab Cell) (capacity : ℕ) (head : ℕ) (s : SegmentValue) (slot i : ℕ) (mark : Mark) → IsSound places cells room capacity head →
-    record { number = number; room = room; rows = map (row_of cells) places } ≡ s → get_or places i Empty ≡ At slot mark → Updates cells after slot None →
+freed_view : (number room : ℕ) (places : List Place) (cells after : CellsValue) (capacity : ℕ) (head : ℕ) (s : SegmentValue) (slot i : ℕ) (mark : Mark) → IsSound places cells room capacity head →
+    record { number = number; room = room; rows = map (row_of cells) places } ≡ s → get_or places i Empty ≡ At slot mark → ChangesAt cells after slot None →
     record { number = number; room = room; rows = map (row_of after) (set places i Empty) } ≡ with_row s i None
 freed_view number room places cells after capacity head s slot i mark sound is here updates =
     ap (λ (rs : List (Option Row)). record { number = number; room = room; rows = rs }) (freed_rows places cells after room capacity head i slot mark sound here updates)
     ∙ ap (λ (x : SegmentValue). with_row x i None) is
 
 -- the object was live and had no mark
-pub taken_away : (number room : ℕ) (places : List Place) (cells after : Slab Cell) (capacity head : ℕ) (s : SegmentValue) (serial slot : ℕ) (cell : Cell) (gone : Gone) → IsSound places cells room capacity head →
-    record { number = number; room = room; rows = map (row_of cells) places } ≡ s → get_or places serial Empty ≡ At slot MarkWhite → get cells slot ≡ Some cell → Updates cells after slot None →
+pub taken_away : (number room : ℕ) (places : List Place) (cells after : CellsValue) (capacity head : ℕ) (s : SegmentValue) (serial slot : ℕ) (cell : Cell) (gone : Gone) → IsSound places cells room capacity head →
+    record { number = number; room = room; rows = map (row_of cells) places } ≡ s → get_or places serial Empty ≡ At slot MarkWhite → get cells slot ≡ Some cell → ChangesAt cells after slot None →
     gone.serial.0 ≡ serial → gone.slot.0 ≡ slot → gone.bytes ≡ object_size (length cell.body.fields) →
     IsTakenAway s (record { number = number; room = room; rows = map (row_of after) (set places serial Empty) }) gone
 taken_away number room places cells after capacity head s serial slot cell gone sound is here found updates named lies bytes = record {

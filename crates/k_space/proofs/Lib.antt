@@ -5,6 +5,7 @@ pub mod SpotPlaces
 pub mod SpotViews
 pub mod GrayLists
 pub mod Taken
+pub mod FreeSlots
 pub mod Rows
 pub mod Pushed
 pub mod GrayQueue

@@ -6,7 +6,7 @@ use Rattle.std.proofs.Math.Seq.{map-set_same}
 use Rattle.std.proofs.lemmas.Bool.{cases_eq}
 use Rattle.std.proofs.lemmas.List.Sums.{sum_by-cons}
 use Rattle.std.proofs.lemmas.List.{get_or-set_same, get_or-set_other, length-set, map-set, set-get_or, length-map, get_or_default}
-use Rattle.slab.specs.Slab.{Slab, get, with_value}
+use Rattle.k_space.specs.Cells.{CellsValue, get, with_cell}
 use Rattle.k_space.specs.declared.marks.Place.{Place}
 use Rattle.k_space.specs.declared.marks.Place.TheVariants.{Empty, At}
 use Rattle.k_space.specs.declared.marks.Mark.{Mark}
@@ -14,7 +14,7 @@ use Rattle.k_space.specs.declared.marks.Mark.TheVariants.{White as MarkWhite, Gr
 use Rattle.k_space.specs.Bounds.{is_covered}
 use Rattle.k_space.specs.declared.body.Stored.{Stored}
 use Rattle.k_space.specs.declared.bound.Bound.{Bound}
-use Rattle.k_space.specs.declared.segment.Cell.{Cell}
+use Rattle.k_space.specs.declared.cells.Cell.{Cell}
 use Rattle.k_space.specs.Segments.{Gray, Row, SegmentValue, LiesAt, row_at, with_row, some_gray, unmarked_row}
 use Rattle.k_space.specs.Places.{row_of, row_in, color_of, IsSized, IsSound, IsPlaced, IsKept, IsGrayList, is_gray_place, is_taken, white_place}
 use Rattle.k_space.specs.Visiting.{AreHeld, IsVisitedFromIn}
@@ -54,21 +54,21 @@ set_agree (a ∷ xs) (b ∷ ys) zero y d len h = ap (λ rest. y ∷ rest) (all_a
 set_agree (a ∷ xs) (b ∷ ys) (suc i) y d len h = ap₂ (λ z zs. z ∷ zs) (h 0 (omega arith)) (set_agree xs ys i y d (omega (arith, len)) (λ j ne. h (suc j) (omega (arith, ne))))
 
 -- what the segment has at a serial
-pub row_at_view : (cells : Slab Cell) (places : List Place) (i : ℕ) → get_or (map (row_of cells) places) i None ≡ row_of cells (get_or places i Empty)
+pub row_at_view : (cells : CellsValue) (places : List Place) (i : ℕ) → get_or (map (row_of cells) places) i None ≡ row_of cells (get_or places i Empty)
 row_at_view cells places i = get_or-map (row_of cells) places i Empty
 
 pub same_At : (s t : ℕ) (m n : Mark) → At s m ≡ At t n → (s ≡ t) × (m ≡ n)
 same_At s t m n e = (cc, cc)
 
 -- what holds of places and slots, but for the list of gray places
-pub record AreKept (places : List Place) (cells : Slab Cell) (room capacity : ℕ) : Type 0 where
+pub record AreKept (places : List Place) (cells : CellsValue) (room capacity : ℕ) : Type 0 where
   pub first : get_or places 0 Empty ≡ Empty
   pub begun : 0 < length places
   pub sized : IsSized places cells room capacity
   pub placed : (i slot : ℕ) (mark : Mark) → get_or places i Empty ≡ At slot mark → IsPlaced cells i slot
   pub kept : (slot : ℕ) (cell : Cell) → get cells slot ≡ Some cell → IsKept places slot cell
 
-pub kept_of : (places : List Place) (cells : Slab Cell) (room capacity head : ℕ) → IsSound places cells room capacity head → AreKept places cells room capacity
+pub kept_of : (places : List Place) (cells : CellsValue) (room capacity head : ℕ) → IsSound places cells room capacity head → AreKept places cells room capacity
 kept_of places cells room capacity head sound = record {
   first = sound.first;
   begun = sound.begun;
@@ -77,7 +77,7 @@ kept_of places cells room capacity head sound = record {
   kept = sound.kept;
 }
 
-pub sound_of : (places : List Place) (cells : Slab Cell) (room capacity head : ℕ) → AreKept places cells room capacity → IsGrayList places (count_by is_gray_place places) head → IsSound places cells room capacity head
+pub sound_of : (places : List Place) (cells : CellsValue) (room capacity head : ℕ) → AreKept places cells room capacity → IsGrayList places (count_by is_gray_place places) head → IsSound places cells room capacity head
 sound_of places cells room capacity head kept grays = record {
   first = kept.first;
   begun = kept.begun;
@@ -88,7 +88,7 @@ sound_of places cells room capacity head kept grays = record {
 }
 
 -- another mark at one place
-pub recolored_kept : (places : List Place) (cells : Slab Cell) (room capacity i slot : ℕ) (m n : Mark) → AreKept places cells room capacity → get_or places i Empty ≡ At slot m → AreKept (set places i (At slot n)) cells room capacity
+pub recolored_kept : (places : List Place) (cells : CellsValue) (room capacity i slot : ℕ) (m n : Mark) → AreKept places cells room capacity → get_or places i Empty ≡ At slot m → AreKept (set places i (At slot n)) cells room capacity
 recolored_kept places cells room capacity i slot m n sound here =
     let not_first : 0 ≢ i = λ e. apart e in
     record {
@@ -128,13 +128,13 @@ recolored_kept places cells room capacity i slot m n sound here =
           | inr differs ↦ record { mark = was.mark; there = get_or-set_other places i cell.serial.0 (At slot n) Empty differs ∙ was.there; few = was.few }
         ]
 
-pub recolored : (places : List Place) (cells : Slab Cell) (room capacity head after i slot : ℕ) (m n : Mark) → IsSound places cells room capacity head → get_or places i Empty ≡ At slot m →
+pub recolored : (places : List Place) (cells : CellsValue) (room capacity head after i slot : ℕ) (m n : Mark) → IsSound places cells room capacity head → get_or places i Empty ≡ At slot m →
     IsGrayList (set places i (At slot n)) (count_by is_gray_place (set places i (At slot n))) after → IsSound (set places i (At slot n)) cells room capacity after
 recolored places cells room capacity head after i slot m n sound here grays =
     sound_of (set places i (At slot n)) cells room capacity after (recolored_kept places cells room capacity i slot m n (kept_of places cells room capacity head sound) here) grays
 
 -- another gray place that follows changes no row
-pub followed_view : (number room : ℕ) (places : List Place) (cells : Slab Cell) (i slot next after : ℕ) → get_or places i Empty ≡ At slot (MarkGray next) →
+pub followed_view : (number room : ℕ) (places : List Place) (cells : CellsValue) (i slot next after : ℕ) → get_or places i Empty ≡ At slot (MarkGray next) →
     ◌≡◌ {A = SegmentValue} (record { number = number; room = room; rows = map (row_of cells) (set places i (At slot (MarkGray after))) }) (record { number = number; room = room; rows = map (row_of cells) places })
 followed_view number room places cells i slot next after here =
     ap (λ (rs : List (Option Row)). record { number = number; room = room; rows = rs })
@@ -151,7 +151,7 @@ row_in_recolored slot m n row (Some cell) e =
     ap (λ (r : Row). Some (record r { color = color_of n })) same
 
 -- what a contract sees of it
-pub recolored_view : (number room : ℕ) (places : List Place) (cells : Slab Cell) (i slot : ℕ) (m n : Mark) (s : SegmentValue) (row : Row) →
+pub recolored_view : (number room : ℕ) (places : List Place) (cells : CellsValue) (i slot : ℕ) (m n : Mark) (s : SegmentValue) (row : Row) →
     record { number = number; room = room; rows = map (row_of cells) places } ≡ s → get_or places i Empty ≡ At slot m → row_at s i ≡ Some row →
     record { number = number; room = room; rows = map (row_of cells) (set places i (At slot n)) } ≡ with_row s i (Some (record row { color = color_of n }))
 recolored_view number room places cells i slot m n s row is here at =
@@ -163,14 +163,14 @@ recolored_view number room places cells i slot m n s row is here at =
     step ∙ ap (λ (x : SegmentValue). with_row x i (Some (record row { color = color_of n }))) is
 
 -- how a live object lies in the segment
-pub record Lies (places : List Place) (cells : Slab Cell) (slot serial : ℕ) (row : Row) : Type 0 where
+pub record Lies (places : List Place) (cells : CellsValue) (slot serial : ℕ) (row : Row) : Type 0 where
   pub mark : Mark
   pub cell : Cell
   pub at : get_or places serial Empty ≡ At slot mark
   pub there : get cells slot ≡ Some cell
   pub row_is : row ≡ record { slot = slot; color = color_of mark; ty = cell.body.ty; fields = cell.body.fields }
 
-lies_place : (places : List Place) (cells : Slab Cell) (slot serial : ℕ) (row : Row) (p : Place) → get_or places serial Empty ≡ p → row_of cells p ≡ Some row → row.slot ≡ slot → Lies places cells slot serial row
+lies_place : (places : List Place) (cells : CellsValue) (slot serial : ℕ) (row : Row) (p : Place) → get_or places serial Empty ≡ p → row_of cells p ≡ Some row → row.slot ≡ slot → Lies places cells slot serial row
 lies_place places cells slot serial row Empty e r at = absurd (cc)
 lies_place places cells slot serial row (At s mark) e r at = lies_cell (get cells s) refl r
   where
@@ -187,14 +187,14 @@ lies_place places cells slot serial row (At s mark) e r at = lies_cell (get cell
           row_is = sym same ∙ ap (λ t. record { slot = t; color = color_of mark; ty = cell.body.ty; fields = cell.body.fields }) slots;
         }
 
-pub lies_in : (number room : ℕ) (places : List Place) (cells : Slab Cell) (s : SegmentValue) (slot serial : ℕ) (row : Row) →
+pub lies_in : (number room : ℕ) (places : List Place) (cells : CellsValue) (s : SegmentValue) (slot serial : ℕ) (row : Row) →
     record { number = number; room = room; rows = map (row_of cells) places } ≡ s → LiesAt s slot serial row → Lies places cells slot serial row
 lies_in number room places cells s slot serial row is lies =
     lies_place places cells slot serial row (get_or places serial Empty) refl
     (sym (row_at_view cells places serial) ∙ ap (λ (x : SegmentValue). row_at x serial) is ∙ lies.there) lies.slot_is
 
 -- a row that is gray
-pub gray_row : (cells : Slab Cell) (p : Place) → is_gray_place p ≡ false → some_gray (row_of cells p) ≡ false
+pub gray_row : (cells : CellsValue) (p : Place) → is_gray_place p ≡ false → some_gray (row_of cells p) ≡ false
 gray_row cells Empty e = refl
 gray_row cells (At slot mark) e = by_cell mark (get cells slot) e
   where
@@ -205,12 +205,12 @@ gray_row cells (At slot mark) e = by_cell mark (get cells slot) e
     by_cell MarkBlack (Some cell) e = refl
 
 -- the row of a place in use
-pub row_there : (number room : ℕ) (places : List Place) (cells : Slab Cell) (s : SegmentValue) (i slot : ℕ) (mark : Mark) (o : Option Cell) →
+pub row_there : (number room : ℕ) (places : List Place) (cells : CellsValue) (s : SegmentValue) (i slot : ℕ) (mark : Mark) (o : Option Cell) →
     record { number = number; room = room; rows = map (row_of cells) places } ≡ s → get_or places i Empty ≡ At slot mark → get cells slot ≡ o → row_at s i ≡ row_in slot mark o
 row_there number room places cells s i slot mark o is here found =
     ap (λ (x : SegmentValue). row_at x i) (sym is) ∙ row_at_view cells places i ∙ ap (row_of cells) here ∙ ap (row_in slot mark) found
 
-pub no_row : (number room : ℕ) (places : List Place) (cells : Slab Cell) (s : SegmentValue) (i : ℕ) →
+pub no_row : (number room : ℕ) (places : List Place) (cells : CellsValue) (s : SegmentValue) (i : ℕ) →
     record { number = number; room = room; rows = map (row_of cells) places } ≡ s → get_or places i Empty ≡ Empty → row_at s i ≡ None
 no_row number room places cells s i is here = ap (λ (x : SegmentValue). row_at x i) (sym is) ∙ row_at_view cells places i ∙ ap (row_of cells) here
 
@@ -223,7 +223,7 @@ pub read_at : (places : List Place) (i : ℕ) (p q : Place) → i < length place
 read_at places i p q within read is = get_or_default places i Empty p within ∙ sym read ∙ is
 
 -- the first gray object, made black
-pub visited : (b : Bound) (number room : ℕ) (places : List Place) (cells : Slab Cell) (s : SegmentValue) (i slot next : ℕ) (cell : Cell) (count : ℕ) (list : List Stored) →
+pub visited : (b : Bound) (number room : ℕ) (places : List Place) (cells : CellsValue) (s : SegmentValue) (i slot next : ℕ) (cell : Cell) (count : ℕ) (list : List Stored) →
     record { number = number; room = room; rows = map (row_of cells) places } ≡ s → get_or places i Empty ≡ At slot (MarkGray next) → get cells slot ≡ Some cell → count ≤ 16 → (is_covered b (record { seg = record { 0 = number }; serial = record { 0 = i } }) ≡ false → AreHeld cell.body.fields count list) →
     IsVisitedFromIn b s (record { number = number; room = room; rows = map (row_of cells) (set places i (At slot MarkBlack)) }) (record { name = record { seg = record { 0 = number }; serial = record { 0 = i } }; fields = count }) list
 visited b number room places cells s i slot next cell count list is here found most held =
@@ -259,8 +259,8 @@ pub same_cell : {x y : Cell} → ◌≡◌ {A = Option Cell} (Some x) (Some y) �
 same_cell e = cc
 
 -- another body in one slot
-pub rewritten : (places : List Place) (cells : Slab Cell) (room capacity : ℕ) (head : ℕ) (slot : ℕ) (cell new : Cell) → IsSound places cells room capacity head → get cells slot ≡ Some cell → new.serial.0 ≡ cell.serial.0 → length new.body.fields ≡ length cell.body.fields →
-    IsSound places (with_value cells slot new) room capacity head
+pub rewritten : (places : List Place) (cells : CellsValue) (room capacity : ℕ) (head : ℕ) (slot : ℕ) (cell new : Cell) → IsSound places cells room capacity head → get cells slot ≡ Some cell → new.serial.0 ≡ cell.serial.0 → length new.body.fields ≡ length cell.body.fields →
+    IsSound places (with_cell cells slot new) room capacity head
 rewritten places cells room capacity head slot cell new sound found serial fields =
     record {
       first = sound.first;
@@ -281,46 +281,46 @@ rewritten places cells room capacity head slot cell new sound found serial field
     inside : slot < length cells.slots
     inside = slot_inside cells.slots slot cell found
 
-    here : get (with_value cells slot new) slot ≡ Some new
+    here : get (with_cell cells slot new) slot ≡ Some new
     here = get_or-set_same cells.slots slot (Some new) None inside
 
-    placed_after : (j s : ℕ) (mark : Mark) → get_or places j Empty ≡ At s mark → IsPlaced (with_value cells slot new) j s
+    placed_after : (j s : ℕ) (mark : Mark) → get_or places j Empty ≡ At s mark → IsPlaced (with_cell cells slot new) j s
     placed_after j s mark e =
         let was = sound.placed j s mark e in
         elim (cases_eq s slot) [
           | inl same ↦
               let one : was.cell ≡ cell = same_cell (sym was.there ∙ ap (get cells) same ∙ found) in
-              record { cell = new; there = ap (get (with_value cells slot new)) same ∙ here; serial_is = serial ∙ ap (λ (x : Cell). x.serial.0) (sym one) ∙ was.serial_is }
+              record { cell = new; there = ap (get (with_cell cells slot new)) same ∙ here; serial_is = serial ∙ ap (λ (x : Cell). x.serial.0) (sym one) ∙ was.serial_is }
           | inr differs ↦ record { cell = was.cell; there = get_or-set_other cells.slots slot s (Some new) None differs ∙ was.there; serial_is = was.serial_is }
         ]
 
-    kept_after : (s : ℕ) (x : Cell) → get (with_value cells slot new) s ≡ Some x → IsKept places s x
+    kept_after : (s : ℕ) (x : Cell) → get (with_cell cells slot new) s ≡ Some x → IsKept places s x
     kept_after s x e =
         elim (cases_eq s slot) [
           | inl same ↦
-              let one : new ≡ x = same_cell (sym here ∙ ap (get (with_value cells slot new)) (sym same) ∙ e) in
+              let one : new ≡ x = same_cell (sym here ∙ ap (get (with_cell cells slot new)) (sym same) ∙ e) in
               let was = sound.kept slot cell found in
               record { mark = was.mark; there = ap (λ (c : Cell). get_or places c.serial.0 Empty) (sym one) ∙ ap (λ k. get_or places k Empty) serial ∙ was.there ∙ ap (λ t. At t was.mark) (sym same); few = omega (arith, fields, was.few, ap (λ (c : Cell). length c.body.fields) one) }
           | inr differs ↦ sound.kept s x (sym (get_or-set_other cells.slots slot s (Some new) None differs) ∙ e)
         ]
 
 -- what a contract sees of it
-pub rewritten_view : (number room capacity : ℕ) (places : List Place) (cells : Slab Cell) (head : ℕ) (s : SegmentValue) (slot serial : ℕ) (cell new : Cell) (row : Row) → IsSound places cells room capacity head →
+pub rewritten_view : (number room capacity : ℕ) (places : List Place) (cells : CellsValue) (head : ℕ) (s : SegmentValue) (slot serial : ℕ) (cell new : Cell) (row : Row) → IsSound places cells room capacity head →
     record { number = number; room = room; rows = map (row_of cells) places } ≡ s → get cells slot ≡ Some cell → LiesAt s slot serial row → new.body.ty ≡ row.ty →
-    record { number = number; room = room; rows = map (row_of (with_value cells slot new)) places } ≡ with_row s serial (Some (record row { fields = new.body.fields }))
+    record { number = number; room = room; rows = map (row_of (with_cell cells slot new)) places } ≡ with_row s serial (Some (record row { fields = new.body.fields }))
 rewritten_view number room capacity places cells head s slot serial cell new row sound is found lies tys =
     let l = lies_in number room places cells s slot serial row is lies in
     let inside = slot_inside cells.slots slot cell found in
-    let here : row_of (with_value cells slot new) (get_or places serial Empty) ≡ Some (record row { fields = new.body.fields }) =
-    ap (row_of (with_value cells slot new)) l.at ∙ ap (row_in slot l.mark) (get_or-set_same cells.slots slot (Some new) None inside)
+    let here : row_of (with_cell cells slot new) (get_or places serial Empty) ≡ Some (record row { fields = new.body.fields }) =
+    ap (row_of (with_cell cells slot new)) l.at ∙ ap (row_in slot l.mark) (get_or-set_same cells.slots slot (Some new) None inside)
     ∙ ap (λ (r : Row). Some (record r { ty = new.body.ty; fields = new.body.fields })) (sym l.row_is)
     ∙ ap (λ t. Some (record row { ty = t; fields = new.body.fields })) tys in
-    let rows : map (row_of (with_value cells slot new)) places ≡ set (map (row_of cells) places) serial (Some (record row { fields = new.body.fields })) =
-    maps_agree_but (row_of (with_value cells slot new)) (row_of cells) places Empty serial (Some (record row { fields = new.body.fields })) (At_inside places serial slot l.mark l.at) here (λ j differs. others j differs (get_or places j Empty) refl) in
+    let rows : map (row_of (with_cell cells slot new)) places ≡ set (map (row_of cells) places) serial (Some (record row { fields = new.body.fields })) =
+    maps_agree_but (row_of (with_cell cells slot new)) (row_of cells) places Empty serial (Some (record row { fields = new.body.fields })) (At_inside places serial slot l.mark l.at) here (λ j differs. others j differs (get_or places j Empty) refl) in
     ap (λ (rs : List (Option Row)). record { number = number; room = room; rows = rs }) rows
     ∙ ap (λ (x : SegmentValue). with_row x serial (Some (record row { fields = new.body.fields }))) is
   where
-    others : (j : ℕ) → j ≢ serial → (p : Place) → get_or places j Empty ≡ p → row_of (with_value cells slot new) p ≡ row_of cells p
+    others : (j : ℕ) → j ≢ serial → (p : Place) → get_or places j Empty ≡ p → row_of (with_cell cells slot new) p ≡ row_of cells p
     others j differs Empty e = refl
     others j differs (At t mark) e =
         ap (row_in t mark) (get_or-set_other cells.slots slot t (Some new) None apart)
@@ -355,7 +355,7 @@ pub taken_white : (p : Place) → is_taken (white_place p) ≡ is_taken p
 taken_white Empty = refl
 taken_white (At slot mark) = refl
 
-pub whitened : (places : List Place) (cells : Slab Cell) (room capacity : ℕ) (head : ℕ) → IsSound places cells room capacity head → IsSound (map white_place places) cells room capacity 0
+pub whitened : (places : List Place) (cells : CellsValue) (room capacity : ℕ) (head : ℕ) → IsSound places cells room capacity head → IsSound (map white_place places) cells room capacity 0
 whitened places cells room capacity head sound =
     record {
       first = get_or-map white_place places 0 Empty ∙ ap white_place sound.first;
@@ -366,7 +366,7 @@ whitened places cells room capacity head sound =
       grays = subst (λ (n : ℕ). IsGrayList (map white_place places) n 0) (sym (no_gray_left places)) refl;
     }
 
-white_row : (cells : Slab Cell) (p : Place) → row_of cells (white_place p) ≡ unmarked_row (row_of cells p)
+white_row : (cells : CellsValue) (p : Place) → row_of cells (white_place p) ≡ unmarked_row (row_of cells p)
 white_row cells Empty = refl
 white_row cells (At slot mark) = by_cell (get cells slot)
   where
@@ -374,6 +374,6 @@ white_row cells (At slot mark) = by_cell (get cells slot)
     by_cell None = refl
     by_cell (Some cell) = refl
 
-pub whitened_rows : (cells : Slab Cell) (places : List Place) → map (row_of cells) (map white_place places) ≡ map unmarked_row (map (row_of cells) places)
+pub whitened_rows : (cells : CellsValue) (places : List Place) → map (row_of cells) (map white_place places) ≡ map unmarked_row (map (row_of cells) places)
 whitened_rows cells [] = refl
 whitened_rows cells (p ∷ places) = ap₂ (λ y ys. y ∷ ys) (white_row cells p) (whitened_rows cells places)

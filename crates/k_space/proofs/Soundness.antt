@@ -1,9 +1,9 @@
 -- What holds of every segment.
 use Rattle.std.proofs.Common.{◌≡◌, ◌*◌, ℕ, ◌≤◌, refl, sym, ap, subst, ◌∙◌, List, length, map, Some, arith}
 use Rattle.std.proofs.lemmas.List.{length-map}
-use Rattle.slab.specs.Slab.{Slab, get, slab_len}
+use Rattle.k_space.specs.Cells.{CellsValue, get, count_held}
 use Rattle.k_space.specs.declared.marks.Place.{Place}
-use Rattle.k_space.specs.declared.segment.Cell.{Cell}
+use Rattle.k_space.specs.declared.cells.Cell.{Cell}
 use Rattle.k_space.specs.Segments.{Row, SegmentValue, IsSegment, row_at, living, made, segment_bytes}
 use Rattle.k_space.specs.Places.{row_of, IsSound, AreBytes}
 use Rattle.k_space.proofs.Bytes.{bytes_shown}
@@ -11,20 +11,20 @@ use Rattle.k_space.proofs.Taken.{taken_rows}
 use Rattle.k_space.proofs.Rows.{lies_in, no_row, same_cell}
 
 -- a row for each place
-pub rows_shown : {number room : ℕ} (places : List Place) (cells : Slab Cell) (s : SegmentValue) → record { number = number; room = room; rows = map (row_of cells) places } ≡ s → length s.rows ≡ length places
+pub rows_shown : {number room : ℕ} (places : List Place) (cells : CellsValue) (s : SegmentValue) → record { number = number; room = room; rows = map (row_of cells) places } ≡ s → length s.rows ≡ length places
 rows_shown places cells s is = ap (λ (x : SegmentValue). length x.rows) (sym is) ∙ length-map places (row_of cells)
 
-module _ (number room capacity : ℕ) (places : List Place) (cells : Slab Cell) (head bytes : ℕ) (sound : IsSound places cells room capacity head) (kept : AreBytes places cells bytes) where
+module _ (number room capacity : ℕ) (places : List Place) (cells : CellsValue) (head bytes : ℕ) (sound : IsSound places cells room capacity head) (kept : AreBytes places cells bytes) where
   shown : SegmentValue
   shown = record { number = number; room = room; rows = map (row_of cells) places }
 
   rows : length (map (row_of cells) places) ≡ length places
   rows = length-map places (row_of cells)
 
-  lives : living (record { number = number; room = room; rows = map (row_of cells) places }) ≡ slab_len cells
+  lives : living (record { number = number; room = room; rows = map (row_of cells) places }) ≡ count_held cells
   lives = taken_rows places cells sound.placed ∙ sym sound.sized.counted
 
-  pub living_is : (s : SegmentValue) → record { number = number; room = room; rows = map (row_of cells) places } ≡ s → living s ≡ slab_len cells
+  pub living_is : (s : SegmentValue) → record { number = number; room = room; rows = map (row_of cells) places } ≡ s → living s ≡ count_held cells
   living_is s is = ap (λ (x : SegmentValue). living x) (sym is) ∙ lives
 
   few : (serial : ℕ) (row : Row) → row_at (record { number = number; room = room; rows = map (row_of cells) places }) serial ≡ Some row → length row.fields ≤ 16

@@ -1,11 +1,11 @@
 -- How many places have an object, and how many objects a segment has.
 use Rattle.std.proofs.Common.{◌≡◌, ℕ, suc, ◌+◌, ◌-◌, ◌<◌, ◌≤◌, true, refl, sym, ap, ◌∙◌, List, [], ◌∷◌, ◌++◌, length, map, get_or, set, Option, Some, None, is_some, count_by, arith}
 use Rattle.std.proofs.lemmas.List.Sums.{sum_by-set, sum_by-cons, sum_by-append}
-use Rattle.slab.specs.Slab.{Slab, get}
+use Rattle.k_space.specs.Cells.{CellsValue, get}
 use Rattle.k_space.specs.declared.marks.Place.{Place}
 use Rattle.k_space.specs.declared.marks.Place.TheVariants.{Empty, At}
 use Rattle.k_space.specs.declared.marks.Mark.{Mark}
-use Rattle.k_space.specs.declared.segment.Cell.{Cell}
+use Rattle.k_space.specs.declared.cells.Cell.{Cell}
 use Rattle.k_space.specs.Segments.{HasRoom, IsSegment, Row, SegmentValue, living, made}
 use Rattle.k_space.specs.Places.{IsPlaced, IsSized, is_taken, row_in, row_of}
 use Rattle.k_space.proofs.GrayLists.{At_inside, bit}
@@ -36,7 +36,7 @@ taken_map f same (p ∷ places) =
     omega (arith, sum_by-cons (λ x. bit (is_taken x)) (f p) (map f places), sum_by-cons (λ x. bit (is_taken x)) p places, ap bit (same p), taken_map f same places)
 
 -- as many places of which as many have an object
-pub same_sized : (places after : List Place) (cells : Slab Cell) (room capacity : ℕ) → length after ≡ length places → count_by is_taken after ≡ count_by is_taken places → IsSized places cells room capacity → IsSized after cells room capacity
+pub same_sized : (places after : List Place) (cells : CellsValue) (room capacity : ℕ) → length after ≡ length places → count_by is_taken after ≡ count_by is_taken places → IsSized places cells room capacity → IsSized after cells room capacity
 same_sized places after cells room capacity len same was = record {
   given = omega (arith, len, was.given);
   counted = was.counted ∙ sym same;
@@ -47,7 +47,7 @@ same_sized places after cells room capacity len same was = record {
 }
 
 -- the objects that a contract sees are those of the places
-pub taken_rows : (places : List Place) (cells : Slab Cell) → ((i slot : ℕ) (mark : Mark) → get_or places i Empty ≡ At slot mark → IsPlaced cells i slot) → count_by is_some (map (row_of cells) places) ≡ count_by is_taken places
+pub taken_rows : (places : List Place) (cells : CellsValue) → ((i slot : ℕ) (mark : Mark) → get_or places i Empty ≡ At slot mark → IsPlaced cells i slot) → count_by is_some (map (row_of cells) places) ≡ count_by is_taken places
 taken_rows places cells placed = from places (λ i slot mark e. ap is_some (placed i slot mark e).there)
   where
     some_row : (slot : ℕ) (mark : Mark) (o : Option Cell) → is_some o ≡ true → bit (is_some (row_in slot mark o)) ≡ 1

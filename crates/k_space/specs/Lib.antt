@@ -1,6 +1,7 @@
 pub mod Objects
 pub mod Segments
 pub mod Sweeping
+pub mod Cells
 pub mod Places
 pub mod Chains
 pub mod Stamps

@@ -1,13 +1,13 @@
 -- How a segment keeps its objects. No public clause cites this file.
 use Rattle.std.specs.Prelude.{◌≡◌, ℕ, zero, suc, ◌+◌, ◌*◌, ◌<◌, ◌≤◌, ◌^◌, Bool, true, false, List, [], ◌∷◌, length, map, count_by, slice_index_or, Option, Some, None}
-use Rattle.slab.specs.Slab.{Slab, get, slab_len}
+use Rattle.k_space.specs.Cells.{CellsValue, get, count_held}
 use Rattle.k_base.specs.k_types.Totals.{total}
 use Rattle.k_base.specs.k_types.Types.{object_size}
 use Rattle.k_space.specs.declared.marks.Place.{Place}
 use Rattle.k_space.specs.declared.marks.Place.TheVariants.{Empty, At}
 use Rattle.k_space.specs.declared.marks.Mark.{Mark}
 use Rattle.k_space.specs.declared.marks.Mark.TheVariants.{White as MarkWhite, Gray as MarkGray, Black as MarkBlack}
-use Rattle.k_space.specs.declared.segment.Cell.{Cell}
+use Rattle.k_space.specs.declared.cells.Cell.{Cell}
 use Rattle.k_space.specs.Segments.{Color, White, Gray, Black, Row}
 
 -- the color that a mark is
@@ -16,13 +16,13 @@ color_of MarkWhite = White
 color_of (MarkGray next) = Gray
 color_of MarkBlack = Black
 
--- the object that the slab has there
+-- the object in that slot
 abbrev pub row_in : ℕ → Mark → Option Cell → Option Row
 row_in slot mark None = None
 row_in slot mark (Some cell) = Some (record { slot = slot; color = color_of mark; ty = cell.body.ty; fields = cell.body.fields })
 
--- the object of a place, which the slab has
-abbrev pub row_of : Slab Cell → Place → Option Row
+-- the object of a place
+abbrev pub row_of : CellsValue → Place → Option Row
 row_of cells Empty = None
 row_of cells (At slot mark) = row_in slot mark (get cells slot)
 
@@ -47,7 +47,7 @@ abbrev pub IsLastGray : List Place → ℕ → Type 0
 IsLastGray places last = (i : ℕ) (slot : ℕ) → slice_index_or places i Empty ≡ At slot (MarkGray 0) → i ≡ last
 
 -- the slot has the object of that serial
-pub record IsPlaced (cells : Slab Cell) (serial slot : ℕ) : Type 0 where
+pub record IsPlaced (cells : CellsValue) (serial slot : ℕ) : Type 0 where
   pub cell : Cell
   pub there : get cells slot ≡ Some cell
   pub serial_is : cell.serial.0 ≡ serial
@@ -69,17 +69,17 @@ is_taken Empty = false
 is_taken (At slot mark) = true
 
 -- the serials are numbers of 32 bits, the objects are those of the places and within the room, and there is memory for as many
--- at once, in slots of which there are as many on either side
-pub record IsSized (places : List Place) (cells : Slab Cell) (room capacity : ℕ) : Type 0 where
+-- at once, with a spot for each slot
+pub record IsSized (places : List Place) (cells : CellsValue) (room capacity : ℕ) : Type 0 where
   pub given : length places < 2 ^ 32
-  pub counted : slab_len cells ≡ count_by is_taken places
-  pub within : slab_len cells ≤ room
+  pub counted : count_held cells ≡ count_by is_taken places
+  pub within : count_held cells ≤ room
   pub fits : room ≤ cells.capacity
-  pub slots : capacity ≡ cells.capacity
+  pub slots : cells.capacity ≤ capacity
   pub keys : cells.capacity + 1 < 2 ^ 32
 
 -- places and slots name each other, the gray places are one list, and there is room for each object
-pub record IsSound (places : List Place) (cells : Slab Cell) (room capacity head : ℕ) : Type 0 where
+pub record IsSound (places : List Place) (cells : CellsValue) (room capacity head : ℕ) : Type 0 where
   pub first : slice_index_or places 0 Empty ≡ Empty
   pub begun : 0 < length places
   pub sized : IsSized places cells room capacity
@@ -88,7 +88,7 @@ pub record IsSound (places : List Place) (cells : Slab Cell) (room capacity head
   pub grays : IsGrayList places (count_by is_gray_place places) head
 
 -- the bytes are those of the objects, at most 144 for each serial
-pub record AreBytes (places : List Place) (cells : Slab Cell) (bytes : ℕ) : Type 0 where
+pub record AreBytes (places : List Place) (cells : CellsValue) (bytes : ℕ) : Type 0 where
   pub counted : bytes ≡ total row_bytes (map (row_of cells) places)
   pub small : bytes + 144 ≤ 144 * length places
 

@@ -4,20 +4,22 @@
 //! room, with which its memory goes: how many objects can live at once. Serials count allocations
 //! and are never used again; the slots in which objects lie are.
 //! An [`Area`] is the segments of one heap, with different numbers. The contracts say what each
-//! call changes, and that everything else stays. Only the calls named `make` and
-//! [`Body::directory`] take memory.
+//! call changes, and that everything else stays. Only the calls named `make`,
+//! [`Body::directory`] and [`Segment::grow`] take memory.
 //!
 //! Looking an object up, reading, writing and placing take constant time in the number of objects, where the
 //! hash spreads their serials, and so does taking all marks away. A sweep costs in proportion to the objects that are live when it begins.
 //!
-//! The crate stands on `k_types` for names and types of objects, on `k_io` for want of memory, on `slab` for the slots, and on
+//! The crate stands on `k_types` for names and types of objects, on `k_io` for want of memory, and on
 //! the lemmas of `k_base`.
 #![tactic(auto)]
 
 mod area;
 mod body;
 mod bound;
+mod cells;
 mod chains;
+mod growing;
 mod live;
 mod marks;
 mod segment;

@@ -1,5 +1,5 @@
 //! The places of objects by serial, and their marks.
-ghost use Rattle.std.specs.Prelude.{◌≡◌, ◌≢◌, ◌<◌, ◌≤◌, ◌+◌, ◌-◌, ◌^◌, ◌++◌, ◌∷◌, [], length, map, slice_set, slice_index_or, IfOk, ℕ};
+ghost use Rattle.std.specs.Prelude.{◌≡◌, ◌≢◌, ◌<◌, ◌≤◌, ◌+◌, ◌-◌, ◌^◌, ◌++◌, ◌∷◌, [], length, map, slice_set, slice_index_or, IfOk, OnErr, OnOk, max, ℕ};
 ghost use Rattle.k_space.specs.declared.marks.Mark.{Mark as MarkOf};
 ghost use Rattle.k_space.specs.declared.marks.Mark.TheVariants.{White as MarkWhite, Gray as MarkGray};
 ghost use Rattle.k_space.specs.declared.marks.Place.TheVariants.{Empty as NoPlace, At as PlaceAt};
@@ -129,6 +129,19 @@ impl Places {
             made: 1,
             epoch: 1,
         })
+    }
+
+    /// Memory for so many slots, where there is less.
+    pub(crate) fn reserve(&mut self, slots: usize) -> Result<(), NoMemory>
+        requires { slots < 2 ^ 32 - 1 }
+        ensures ok { OnOk result (self.new ≡ record self.old { capacity = max self.old.capacity slots }) }
+        ensures err { OnErr result (self.new ≡ self.old) }
+    {
+        let len = self.spots.len();
+        if len < slots {
+            self.spots.reserve_exact(slots - len)?;
+        }
+        Ok(())
     }
 
     /// How many serials were given, with 0.

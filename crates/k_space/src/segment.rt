@@ -7,27 +7,21 @@ ghost use Rattle.k_base.specs.k_types.Names.{name_of};
 ghost use Rattle.k_space.specs.Segments.{Row, White, LiesAt, IsLive, HasRoom, row_at, living, made, with_row, IsSegment, placed, some_gray, is_gray, is_marked, gray_or_black, segment_bytes, unmarked_segment, blackened_segment, body_of};
 ghost use Rattle.k_space.specs.Sweeping.{IsTakenAway};
 ghost use Rattle.k_space.specs.Visiting.{AreHeld, IsVisitedFromIn, IsVisitedIn};
-ghost use Rattle.slab.specs.Slab.{get};
-ghost use Rattle.k_space.specs.declared.segment.Cell.{Cell as SlabCell};
+ghost use Rattle.k_space.specs.Cells.{get};
+ghost use Rattle.k_space.specs.declared.cells.Cell.{Cell as Lying};
 
 use crate::body::{Body, Stored};
 use crate::bound::Bound;
+use crate::cells::{Cell, Cells};
 use crate::chains::short;
 use crate::live::{Entry, blacken, next_white};
 use crate::marks::{Mark, Place, Places};
 use k_base::{Field, Link, Name, NoMemory, Seg, Serial, Slot, TypeId};
-use slab::Slab;
 use std::alloc::{AllocError, Global};
 use std::marker::Model;
 
 // Slots and serials are numbers below this one.
 const END: usize = 4_294_967_295;
-
-#[derive(Drop)]
-struct Cell {
-    serial: Serial,
-    body: Body,
-}
 
 /// An object that was freed: where it lay, its serial, and its size in bytes.
 #[derive(Clone, Copy, Debug)]
@@ -48,9 +42,9 @@ pub struct Visited {
 /// lies in a slot, which is.
 pub struct Segment {
     number: Seg,
-    room: u32,
-    places: Places,
-    cells: Slab<Cell>,
+    pub(crate) room: u32,
+    pub(crate) places: Places,
+    pub(crate) cells: Cells,
     // The serial of the gray object that was made gray first, and a hint of where it lies; 0 where there is none.
     gray: u32,
     gray_slot: usize,
@@ -60,7 +54,7 @@ pub struct Segment {
     // Those of the live objects.
     bytes: u64,
     // The live objects, in any order.
-    live: Vec<Entry>,
+    pub(crate) live: Vec<Entry>,
     // How many of these, from the first on, a sweep has passed.
     passed: usize,
 }
@@ -88,7 +82,7 @@ impl Model for Segment {
 
     ghost Value = { SegmentValue };
 
-    ghost use Rattle.std.specs.Prelude.{map, vec_capacity, ◌≡◌};
+    ghost use Rattle.std.specs.Prelude.{map, vec_capacity, ◌≤◌};
     ghost use Rattle.k_space.specs.Places.{row_of, IsSound, IsLastGray, AreBytes};
     ghost use Rattle.k_space.specs.Listed.{IsListed, serials};
 
@@ -99,23 +93,23 @@ impl Model for Segment {
       last : IsLastGray s.places.items s.last;
       bytes : AreBytes s.places.items s.cells s.bytes;
       listed : IsListed s.places.items (serials s.live.items) s.passed;
-      reserved : vec_capacity s.live ≡ s.room;
+      reserved : s.room ≤ vec_capacity s.live;
     } };
 }
 
 /// Writes what the fields of the object hold to the front of the list, unless it is skipped.
-fn copy_unless(cells: &Slab<Cell>, slot: usize, skip: bool, into: &mut [Stored]) -> u32
+fn copy_unless(cells: &Cells, slot: usize, skip: bool, into: &mut [Stored]) -> u32
     requires live { IsSome (get cells.now slot) }
-    requires few { (cell : SlabCell) → get cells.now slot ≡ Some cell → length cell.body.fields ≤ 16 }
+    requires few { (cell : Lying) → get cells.now slot ≡ Some cell → length cell.body.fields ≤ 16 }
     requires list { 16 ≤ length into.old }
     ensures most { result ≤ 16 }
-    ensures held { IsFalse skip → (cell : SlabCell) → get cells.now slot ≡ Some cell → AreHeld cell.body.fields result into.new }
+    ensures held { IsFalse skip → (cell : Lying) → get cells.now slot ≡ Some cell → AreHeld cell.body.fields result into.new }
     ensures len { length into.new ≡ length into.old }
 {
     if skip {
         return 0;
     }
-    cells[slot].body.copy_to(into)
+    cells.at(slot).body.copy_to(into)
 }
 
 impl Segment {
@@ -124,12 +118,12 @@ impl Segment {
     pub fn make(alloc: Global, seg: Seg, room: u32) -> Result<Segment, NoMemory>
         ensures { IfOk result (λ s. s ≡ record { number = seg.0; room = room; rows = None ∷ [] }) }
     {
-        let cells = Slab::with_capacity(alloc, room as usize)?;
-        let slots = cells.capacity();
+        let slots = room as usize;
         // No such memory is given.
         if slots >= END {
             return Err(NoMemory::from(AllocError));
         }
+        let cells = Cells::make(alloc, slots)?;
         Ok(Segment {
             number: seg,
             room,
@@ -140,7 +134,7 @@ impl Segment {
             last: 0,
             last_slot: 0,
             bytes: 0,
-            live: Vec::with_capacity(alloc, room as usize)?,
+            live: Vec::with_capacity(alloc, slots)?,
             passed: 0,
         })
     }
@@ -196,7 +190,7 @@ impl Segment {
     {
         let serial = self.places.len() as u32;
         self.bytes += body.bytes();
-        let slot = self.cells.insert_reserved(Cell {
+        let slot = self.cells.put(Cell {
             serial: Serial(serial),
             body,
         });
@@ -244,7 +238,7 @@ impl Segment {
         requires { IsLive self.now slot.0 }
         ensures { (serial : ℕ) (row : Row) → LiesAt self.now slot.0 serial row → result.0 ≡ serial }
     {
-        self.cells[slot.0].serial
+        self.cells.at(slot.0).serial
     }
 
     /// The size of the object there, in bytes. Constant time.
@@ -314,7 +308,7 @@ impl Segment {
         ensures { (serial : ℕ) (row : Row) → LiesAt self.old slot.0 serial row →
             self.new ≡ with_row self.old serial (Some (record row { fields = slice_set row.fields field (Refers (option_map name_of value)) })) }
     {
-        self.cells[slot.0].body.write_ref(field, value);
+        self.cells.write_ref(slot.0, field, value);
     }
 
     /// Writes a number into an integer field of the object there. Constant time, and no memory.
@@ -324,7 +318,7 @@ impl Segment {
         ensures { (serial : ℕ) (row : Row) → LiesAt self.old slot.0 serial row →
             self.new ≡ with_row self.old serial (Some (record row { fields = slice_set row.fields field (Holds value) })) }
     {
-        self.cells[slot.0].body.write_int(field, value);
+        self.cells.write_int(slot.0, field, value);
     }
 
     /// Makes a white object gray. Other objects, and serials with no object, stay as they are. The slot is a hint
@@ -455,7 +449,7 @@ impl Segment {
                 self.passed = white.at;
                 let entry = self.live.swap_remove(white.at);
                 self.places.take(entry.serial as usize);
-                let cell = self.cells.remove(white.slot);
+                let cell = self.cells.take(white.slot);
                 let bytes = cell.body.bytes();
                 self.bytes -= bytes;
                 Some(Gone {
@@ -473,6 +467,6 @@ impl Segment {
         requires { IsLive self.now slot.0 }
         ensures { (serial : ℕ) (row : Row) → LiesAt self.now slot.0 serial row → result.now ≡ body_of row }
     {
-        &self.cells[slot.0].body
+        &self.cells.at(slot.0).body
     }
 }

@@ -1,6 +1,6 @@
 use Rattle.std.proofs.Common.{◌≡◌, Some, sym, ap, ◌∙◌, get_or, option_map}
 use Rattle.std.specs.Option.{option_copied}
-use Rattle.slab.specs.Slab.{get}
+use Rattle.k_space.specs.Cells.{get}
 use Rattle.k_space.specs.declared.marks.Place.TheVariants.{Empty}
 use Rattle.k_space.specs.Segments.{Row}
 use Rattle.k_space.proofs.Rows.{row_there}

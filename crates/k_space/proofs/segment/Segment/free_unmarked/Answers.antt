@@ -1,6 +1,6 @@
 use Rattle.std.proofs.Common.{List, ◌≡◌, ◌-◌, refl, sym, ap, subst, ◌∙◌, length, arith}
 use Rattle.k_space.specs.declared.live.Entry.{Entry}
-use Rattle.k_space.specs.declared.segment.Cell.{Cell}
+use Rattle.k_space.specs.declared.cells.Cell.{Cell}
 use Rattle.k_space.specs.declared.marks.Place.TheVariants.{Empty}
 use Rattle.k_space.specs.declared.marks.Mark.TheVariants.{White as MarkWhite}
 use Rattle.k_space.specs.Segments.{Row, is_marked}
@@ -30,9 +30,9 @@ overflow_sub-self c =
     let at = c.swap_remove-entry.result.serial in
     let next : IsNextWhite places (serials c.self.inside.live.items) c.in-Some.white.at c.in-Some.white.slot = subst (λ (xs : List Entry). IsNextWhite places (serials xs) c.in-Some.white.at c.in-Some.white.slot) c.deref.ensures.value c.in-Some.ensures.some in
     let here = next_place places (serials c.self.inside.live.items) c.in-Some.white.at c.in-Some.white.slot at next (serial_read c.self.inside.live.items c.in-Some.white.at c.swap_remove-entry.result c.swap_remove-entry.ensures.value) in
-    let rows = freed_rows places cells c.remove-cell.new.self c.self.inside.room _ c.self.inside.gray at c.in-Some.white.slot MarkWhite c.self.invariant.sound here c.remove-cell.ensures.updates in
-    let size = size_there places cells at c.in-Some.white.slot MarkWhite c.remove-cell.result here c.remove-cell.ensures.value ∙ sym c.bytes-bytes.ensures.size in
-    (bytes_freed places cells c.remove-cell.new.self c.self.inside.bytes at c.bytes-bytes.result c.self.invariant.bytes rows (At_inside places at c.in-Some.white.slot MarkWhite here) size).0
+    let rows = freed_rows places cells c.take-cell.new.self c.self.inside.room _ c.self.inside.gray at c.in-Some.white.slot MarkWhite c.self.invariant.sound here c.take-cell.ensures.changed in
+    let size = size_there places cells at c.in-Some.white.slot MarkWhite c.take-cell.result here c.take-cell.ensures.value ∙ sym c.bytes-bytes.ensures.size in
+    (bytes_freed places cells c.take-cell.new.self c.self.inside.bytes at c.bytes-bytes.result c.self.invariant.bytes rows (At_inside places at c.in-Some.white.slot MarkWhite here) size).0
 
 pub invariant_of-self : goal.invariant_of-self
 invariant_of-self c =
@@ -44,14 +44,14 @@ invariant_of-self c =
     let next : IsNextWhite places (serials live.items) c.in-Some.white.at c.in-Some.white.slot = subst (λ (xs : List Entry). IsNextWhite places (serials xs) c.in-Some.white.at c.in-Some.white.slot) c.deref.ensures.value c.in-Some.ensures.some in
     let read = serial_read live.items c.in-Some.white.at c.swap_remove-entry.result c.swap_remove-entry.ensures.value in
     let here = next_place places (serials live.items) c.in-Some.white.at c.in-Some.white.slot at next read in
-    let rows = freed_rows places cells c.remove-cell.new.self c.self.inside.room _ c.self.inside.gray at c.in-Some.white.slot MarkWhite c.self.invariant.sound here c.remove-cell.ensures.updates in
-    let size = size_there places cells at c.in-Some.white.slot MarkWhite c.remove-cell.result here c.remove-cell.ensures.value ∙ sym c.bytes-bytes.ensures.size in
+    let rows = freed_rows places cells c.take-cell.new.self c.self.inside.room _ c.self.inside.gray at c.in-Some.white.slot MarkWhite c.self.invariant.sound here c.take-cell.ensures.changed in
+    let size = size_there places cells at c.in-Some.white.slot MarkWhite c.take-cell.result here c.take-cell.ensures.value ∙ sym c.bytes-bytes.ensures.size in
     let within = At_inside places at c.in-Some.white.slot MarkWhite here in
-    let bytes = bytes_freed places cells c.remove-cell.new.self c.self.inside.bytes at c.bytes-bytes.result c.self.invariant.bytes rows within size in
+    let bytes = bytes_freed places cells c.take-cell.new.self c.self.inside.bytes at c.bytes-bytes.result c.self.invariant.bytes rows within size in
     let without = serials_without live.items after.items c.in-Some.white.at
     (swapped live.items after.items c.in-Some.white.at live.len after.len live.ok.0 after.ok.0 c.swap_remove-entry.ensures.len (omega (arith, next.below, length_serials live.items)) c.swap_remove-entry.ensures.by_index) in
     rw c.take.ensures (record {
-      sound = freed places cells c.remove-cell.new.self c.self.inside.room _ c.self.inside.gray at c.in-Some.white.slot c.remove-cell.result c.self.invariant.sound here c.remove-cell.ensures.value c.remove-cell.ensures.updates c.remove-cell.ensures.len c.remove-cell.ensures.capacity;
+      sound = freed places cells c.take-cell.new.self c.self.inside.room _ c.self.inside.gray at c.in-Some.white.slot c.take-cell.result c.self.invariant.sound here c.take-cell.ensures.value c.take-cell.ensures.changed c.take-cell.ensures.count c.take-cell.ensures.capacity;
       bytes = bytes.1 (c.self.inside.bytes - c.bytes-bytes.result) (omega (arith, bytes.0));
       listed = rw (next_serial places (serials live.items) c.in-Some.white.at c.in-Some.white.slot at next read) (listed_freed places (serials live.items) (serials after.items) _ c.in-Some.white.at c.in-Some.white.slot c.self.invariant.listed next without);
       reserved = omega (arith, c.swap_remove-entry.ensures.capacity, c.self.invariant.reserved);
@@ -65,7 +65,7 @@ returns-in-Some-clause-freed c =
     let next : IsNextWhite places (serials c.self.inside.live.items) c.in-Some.white.at c.in-Some.white.slot = subst (λ (xs : List Entry). IsNextWhite places (serials xs) c.in-Some.white.at c.in-Some.white.slot) c.deref.ensures.value c.in-Some.ensures.some in
     let here = next_place places (serials c.self.inside.live.items) c.in-Some.white.at c.in-Some.white.slot at next (serial_read c.self.inside.live.items c.in-Some.white.at c.swap_remove-entry.result c.swap_remove-entry.ensures.value) in
     let placed = c.self.invariant.sound.placed at c.in-Some.white.slot MarkWhite here in
-    let one : c.remove-cell.result ≡ placed.cell = same_cell (sym c.remove-cell.ensures.value ∙ placed.there) in
+    let one : c.take-cell.result ≡ placed.cell = same_cell (sym c.take-cell.ensures.value ∙ placed.there) in
     rw c.take.ensures
-    (taken_away _ _ places c.self.inside.cells c.remove-cell.new.self _ c.self.inside.gray c.args.self.now at c.in-Some.white.slot c.remove-cell.result _ c.self.invariant.sound c.self.view_is here
-    c.remove-cell.ensures.value c.remove-cell.ensures.updates (ap (λ (x : Cell). x.serial.0) one ∙ placed.serial_is) refl c.bytes-bytes.ensures.size)
+    (taken_away _ _ places c.self.inside.cells c.take-cell.new.self _ c.self.inside.gray c.args.self.now at c.in-Some.white.slot c.take-cell.result _ c.self.invariant.sound c.self.view_is here
+    c.take-cell.ensures.value c.take-cell.ensures.changed (ap (λ (x : Cell). x.serial.0) one ∙ placed.serial_is) refl c.bytes-bytes.ensures.size)

@@ -18,17 +18,17 @@ overflow_add-self c =
     let most : c.bytes.result ≤ 144 = c.bytes.ensures.most in
     omega (arith, c.self.invariant.bytes.small, c.self.invariant.sound.sized.given, most)
 
-pub insert_reserved-slot-requires : goal.insert_reserved-slot-requires
-insert_reserved-slot-requires c =
+pub put-slot-requires : goal.put-slot-requires
+put-slot-requires c =
     let lives = living_is _ _ _ _ _ _ _ c.self.invariant.sound c.self.invariant.bytes c.args.self.now c.self.view_is in
     let room : c.args.self.now.room ≡ c.self.inside.room = ap (λ (s : SegmentValue). s.room) (sym c.self.view_is) in
     omega (arith, lives, room, c.requires.few, c.self.invariant.sound.sized.fits)
 
 pub put-requires-clause-slot : goal.put-requires-clause-slot
-put-requires-clause-slot c = omega (arith, c.insert_reserved-slot.ensures.key_in_range, c.insert_reserved-slot.ensures.capacity, c.self.invariant.sound.sized.slots)
+put-requires-clause-slot c = omega (arith, c.put-slot.ensures.within, c.self.invariant.sound.sized.slots)
 
 pub put-requires-clause-free : goal.put-requires-clause-free
-put-requires-clause-free c = no_place c.self.inside.places.items c.self.inside.cells _ _ _ c.insert_reserved-slot.result c.self.invariant.sound c.insert_reserved-slot.ensures.was_vacant
+put-requires-clause-free c = no_place c.self.inside.places.items c.self.inside.cells _ _ _ c.put-slot.result c.self.invariant.sound c.put-slot.ensures.vacant
 
 pub put-requires-clause-few : goal.put-requires-clause-few
 put-requires-clause-few c =
@@ -48,26 +48,26 @@ invariant_of-self c =
     let lives = living_is _ _ _ _ _ _ _ c.self.invariant.sound c.self.invariant.bytes c.args.self.now c.self.view_is in
     let room : c.args.self.now.room ≡ c.self.inside.room = ap (λ (s : SegmentValue). s.room) (sym c.self.view_is) in
     let serial : c.len-serial.result ≡ length places = omega (arith, c.len-serial.ensures.value) in
-    let updates = c.insert_reserved-slot.ensures.updates in
+    let updates = c.put-slot.ensures.changed in
     let few : length c.args.body.fields ≤ 16 = omega (arith, c.bytes.ensures.size, c.bytes.ensures.most) in
-    let sound = pushed places c.self.inside.cells c.insert_reserved-slot.new.self c.self.inside.room _ c.self.inside.gray c.insert_reserved-slot.result _ c.self.invariant.sound (omega (arith, lives, room, c.requires.few))
-    (omega (arith, rows, c.requires.left, c.self.invariant.sound.begun)) c.insert_reserved-slot.ensures.was_vacant updates c.insert_reserved-slot.ensures.len c.insert_reserved-slot.ensures.capacity serial few in
-    let old = rows_kept places c.self.inside.cells c.insert_reserved-slot.new.self c.self.inside.room _ c.self.inside.gray c.insert_reserved-slot.result _ c.self.invariant.sound c.insert_reserved-slot.ensures.was_vacant updates in
+    let sound = pushed places c.self.inside.cells c.put-slot.new.self c.self.inside.room _ c.self.inside.gray c.put-slot.result _ c.self.invariant.sound (omega (arith, lives, room, c.requires.few))
+    (omega (arith, rows, c.requires.left, c.self.invariant.sound.begun)) c.put-slot.ensures.vacant updates c.put-slot.ensures.count c.put-slot.ensures.capacity serial few in
+    let old = rows_kept places c.self.inside.cells c.put-slot.new.self c.self.inside.room _ c.self.inside.gray c.put-slot.result _ c.self.invariant.sound c.put-slot.ensures.vacant updates in
     let most = subst (λ n. n ≤ 144) c.bytes.ensures.size c.bytes.ensures.most in
-    let bytes = bytes_pushed places c.self.inside.cells c.insert_reserved-slot.new.self c.self.inside.bytes c.insert_reserved-slot.result _ c.self.invariant.bytes old updates.changed most in
+    let bytes = bytes_pushed places c.self.inside.cells c.put-slot.new.self c.self.inside.bytes c.put-slot.result _ c.self.invariant.bytes old updates.there most in
     let items = sym (ap (λ (p : PlacesValue). p.items) c.put.ensures) in
     record {
       sound = rw c.put.ensures sound;
       bytes =
-          subst (λ n. AreBytes c.put.new.self.items c.insert_reserved-slot.new.self (c.self.inside.bytes + n)) (sym c.bytes.ensures.size)
-          (subst (λ (ps : List Place). AreBytes ps c.insert_reserved-slot.new.self (c.self.inside.bytes + object_size (length c.args.body.fields))) items bytes);
-      listed = rw (c.put.ensures, c.push_reserved.ensures.items, serials_pushed c.self.inside.live.items c.len-serial.result c.insert_reserved-slot.result) (listed_pushed places (serials c.self.inside.live.items) _ c.insert_reserved-slot.result c.len-serial.result c.self.invariant.listed serial);
+          subst (λ n. AreBytes c.put.new.self.items c.put-slot.new.self (c.self.inside.bytes + n)) (sym c.bytes.ensures.size)
+          (subst (λ (ps : List Place). AreBytes ps c.put-slot.new.self (c.self.inside.bytes + object_size (length c.args.body.fields))) items bytes);
+      listed = rw (c.put.ensures, c.push_reserved.ensures.items, serials_pushed c.self.inside.live.items c.len-serial.result c.put-slot.result) (listed_pushed places (serials c.self.inside.live.items) _ c.put-slot.result c.len-serial.result c.self.invariant.listed serial);
       reserved = omega (arith, c.push_reserved.ensures.capacity, c.self.invariant.reserved);
-      last = rw c.put.ensures (last_pushed places c.self.inside.last c.insert_reserved-slot.result c.self.invariant.last);
+      last = rw c.put.ensures (last_pushed places c.self.inside.last c.put-slot.result c.self.invariant.last);
     }
 
 pub returns-clause-placed : goal.returns-clause-placed
 returns-clause-placed c =
     rw c.put.ensures
-    (pushed_view _ _ _ c.self.inside.places.items c.self.inside.cells c.insert_reserved-slot.new.self c.self.inside.gray c.args.self.now c.insert_reserved-slot.result _ c.self.invariant.sound c.self.view_is
-    c.insert_reserved-slot.ensures.was_vacant c.insert_reserved-slot.ensures.updates)
+    (pushed_view _ _ _ c.self.inside.places.items c.self.inside.cells c.put-slot.new.self c.self.inside.gray c.args.self.now c.put-slot.result _ c.self.invariant.sound c.self.view_is
+    c.put-slot.ensures.vacant c.put-slot.ensures.changed)

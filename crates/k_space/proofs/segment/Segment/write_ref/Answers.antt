@@ -1,7 +1,6 @@
 use Rattle.std.proofs.Common.{◌≡◌, ◌<◌, Some, List, is_some, refl, sym, ap, subst, ◌∙◌, set, length, option_map}
-use Rattle.k_space.specs.declared.segment.Cell.{Cell}
+use Rattle.k_space.specs.declared.cells.Cell.{Cell}
 use Rattle.k_base.specs.k_types.State.{Content, Refers}
-use Rattle.k_space.specs.Objects.{BodyValue}
 use Rattle.k_base.specs.k_types.Names.{name_of}
 use Rattle.k_space.specs.Segments.{Row, with_row}
 use Rattle.std.proofs.lemmas.Option.{slice_get_within}
@@ -11,42 +10,43 @@ use Rattle.k_space.proofs.Rows.{slot_inside}
 use Rattle.k_space.proofs.Bytes.{bytes_rewritten}
 use Rattle.k_space.proofs.segment.Segment.write_ref.Goals as goal
 
-pub index_mut-requires : goal.index_mut-requires
-index_mut-requires c =
+pub write_ref-requires-clause-there : goal.write_ref-requires-clause-there
+write_ref-requires-clause-there c =
     let live = c.requires.live in
     let l = lies_in _ _ c.self.inside.places.items c.self.inside.cells c.args.self.now c.args.slot.0 live.serial live.row c.self.view_is live.lies in
     ap is_some l.there
 
-pub write_ref-requires : goal.write_ref-requires
-write_ref-requires c =
+pub write_ref-requires-clause-field : goal.write_ref-requires-clause-field
+write_ref-requires-clause-field c = λ cell found.
     let live = c.requires.live in
     let l = lies_in _ _ c.self.inside.places.items c.self.inside.cells c.args.self.now c.args.slot.0 live.serial live.row c.self.view_is live.lies in
-    let one : l.cell ≡ c.index_mut.result.now = same_cell (sym l.there ∙ c.index_mut.ensures.value) in
-    let fields : live.row.fields ≡ c.index_mut.result.now.body.fields = ap (λ (r : Row). r.fields) l.row_is ∙ ap (λ (x : Cell). x.body.fields) one in
+    let one : l.cell ≡ cell = same_cell (sym l.there ∙ found) in
+    let fields : live.row.fields ≡ cell.body.fields = ap (λ (r : Row). r.fields) l.row_is ∙ ap (λ (x : Cell). x.body.fields) one in
     let kind = c.requires.kind live.serial live.row live.lies in
     subst (λ (f : List Content). c.args.field < length f) fields (slice_get_within _ _ _ kind.is)
 
 pub invariant_of-self : goal.invariant_of-self
 invariant_of-self c =
-    let cell = c.index_mut.result.now in
-    let new : Cell = record { serial = cell.serial; body = c.write_ref.new.self } in
-    let found = c.index_mut.ensures.value in
-    let fields : length c.write_ref.new.self.fields ≡ length cell.body.fields =
-    ap (λ (b : BodyValue). length b.fields) c.write_ref.ensures ∙ length-set cell.body.fields c.args.field (Refers (option_map name_of c.args.value)) in
-    record {
-      sound = rewritten c.self.inside.places.items c.self.inside.cells c.self.inside.room _ c.self.inside.gray c.args.slot.0 cell new c.self.invariant.sound found refl fields;
-      bytes = bytes_rewritten c.self.inside.places.items c.self.inside.cells c.self.inside.bytes c.args.slot.0 cell new c.self.invariant.bytes found fields (slot_inside c.self.inside.cells.slots c.args.slot.0 cell found);
+    let live = c.requires.live in
+    let l = lies_in _ _ c.self.inside.places.items c.self.inside.cells c.args.self.now c.args.slot.0 live.serial live.row c.self.view_is live.lies in
+    let cell = l.cell in
+    let new : Cell = record cell { body = record cell.body { fields = set cell.body.fields c.args.field (Refers (option_map name_of c.args.value)) } } in
+    let fields : length new.body.fields ≡ length cell.body.fields = length-set cell.body.fields c.args.field (Refers (option_map name_of c.args.value)) in
+    rw (c.write_ref.ensures cell l.there) (record {
+      sound = rewritten c.self.inside.places.items c.self.inside.cells c.self.inside.room _ c.self.inside.gray c.args.slot.0 cell new c.self.invariant.sound l.there refl fields;
+      bytes = bytes_rewritten c.self.inside.places.items c.self.inside.cells c.self.inside.bytes c.args.slot.0 cell new c.self.invariant.bytes l.there fields (slot_inside c.self.inside.cells.slots c.args.slot.0 cell l.there);
       listed = c.self.invariant.listed;
       reserved = c.self.invariant.reserved;
       last = c.self.invariant.last;
-    }
+    })
 
 pub returns : goal.returns
 returns c = λ serial row lies.
     let l = lies_in _ _ c.self.inside.places.items c.self.inside.cells c.args.self.now c.args.slot.0 serial row c.self.view_is lies in
-    let one : l.cell ≡ c.index_mut.result.now = same_cell (sym l.there ∙ c.index_mut.ensures.value) in
-    let fields : c.index_mut.result.now.body.fields ≡ row.fields = sym (ap (λ (r : Row). r.fields) l.row_is ∙ ap (λ (x : Cell). x.body.fields) one) in
-    let tys : c.index_mut.result.now.body.ty ≡ row.ty = sym (ap (λ (r : Row). r.ty) l.row_is ∙ ap (λ (x : Cell). x.body.ty) one) in
-    let new : Cell = record { serial = c.index_mut.result.now.serial; body = c.write_ref.new.self } in
-    rewritten_view _ _ _ c.self.inside.places.items c.self.inside.cells c.self.inside.gray c.args.self.now c.args.slot.0 serial c.index_mut.result.now new row c.self.invariant.sound c.self.view_is c.index_mut.ensures.value lies (ap (λ (b : BodyValue). b.ty) c.write_ref.ensures ∙ tys)
-    ∙ ap (λ (f : List Content). with_row c.args.self.now serial (Some (record row { fields = f }))) (ap (λ (b : BodyValue). b.fields) c.write_ref.ensures ∙ ap (λ (f : List Content). set f c.args.field (Refers (option_map name_of c.args.value))) fields)
+    let cell = l.cell in
+    let new : Cell = record cell { body = record cell.body { fields = set cell.body.fields c.args.field (Refers (option_map name_of c.args.value)) } } in
+    let fields : cell.body.fields ≡ row.fields = sym (ap (λ (r : Row). r.fields) l.row_is) in
+    let tys : cell.body.ty ≡ row.ty = sym (ap (λ (r : Row). r.ty) l.row_is) in
+    rw (c.write_ref.ensures cell l.there)
+    (rewritten_view _ _ _ c.self.inside.places.items c.self.inside.cells c.self.inside.gray c.args.self.now c.args.slot.0 serial cell new row c.self.invariant.sound c.self.view_is l.there lies tys
+    ∙ ap (λ (f : List Content). with_row c.args.self.now serial (Some (record row { fields = set f c.args.field (Refers (option_map name_of c.args.value)) }))) fields)
