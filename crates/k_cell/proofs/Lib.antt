@@ -10,4 +10,5 @@ pub mod Moved
 pub mod Keeps
 pub mod Carried
 pub mod Rooted
+pub mod Resized
 pub use Rattle.k_agree.proofs.Openings

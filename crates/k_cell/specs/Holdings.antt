@@ -1,5 +1,5 @@
 -- What is seen of the holdings of a cell, and how the tables show it.
-use Rattle.std.specs.Prelude.{◌≡◌, ◌⊎◌, ◌+◌, ◌^◌, ◌<◌, ◌==◌, count_by, if◌then◌else◌, slice_set, ℕ, List, [], map, length, slice_index_or, Option, Some, None, option_map, IsFalse}
+use Rattle.std.specs.Prelude.{◌≡◌, ◌⊎◌, ◌+◌, ◌^◌, ◌<◌, ◌≤◌, ◌==◌, count_by, if◌then◌else◌, slice_set, ℕ, List, [], map, length, slice_index_or, Option, Some, None, option_map, IsFalse}
 use Rattle.k_areas.specs.k_types.declared.names.Name.{Name}
 use Rattle.k_areas.specs.k_types.declared.names.CellPhase.{CellPhase}
 use Rattle.k_areas.specs.k_types.declared.names.CellPhase.TheVariants.{Idle, Begun, Marked}
@@ -106,6 +106,23 @@ pub record HasObjectRoom (holdings : HoldingsValue) (seg : ℕ) : Type 0 where
   pub there : slice_index_or holdings.value.made seg None ≡ Some given
   pub can_give : slice_index_or holdings.serial_rooms seg None ≡ Some room
   pub left : (given < room) ⊎ ((living_in seg holdings.value.objects < room) × (given + 2 < 2 ^ 32))
+
+-- by these rooms the segment is there, and no more than so many objects can live in it at once
+pub record CanGrowTo (rooms : List (Option ℕ)) (seg room : ℕ) : Type 0 where
+  pub now : ℕ
+  pub there : slice_index_or rooms seg None ≡ Some now
+  pub more : now ≤ room
+
+-- by these rooms the segment is there, so many objects can live in it at once, and no more of these do
+pub record CanNarrowTo (rooms : List (Option ℕ)) (objects : List Object) (seg room : ℕ) : Type 0 where
+  pub now : ℕ
+  pub there : slice_index_or rooms seg None ≡ Some now
+  pub less : room ≤ now
+  pub enough : living_in seg objects ≤ room
+
+-- no more of the objects are of that segment than can live in it at once by these rooms
+abbrev pub AreWithin : List (Option ℕ) → List Object → ℕ → Type 0
+AreWithin rooms objects seg = (now : ℕ) → slice_index_or rooms seg None ≡ Some now → living_in seg objects ≤ now
 
 -- a cell whose only segment has that number and no object yet
 abbrev pub fresh_cell : ℕ → ℕ → CellValue

@@ -39,7 +39,7 @@ use std::mem::swap;
 pub struct Holdings {
     // The numbers of segments are below this one.
     bound: u32,
-    area: RootedArea,
+    pub(crate) area: RootedArea,
     // Those of the objects.
     bytes: u64,
     pub(crate) exits: ExitTable,

@@ -29,11 +29,11 @@ use std::mem::{replace, swap};
 /// The segments of a heap. A root is noted while the book is held, which costs the end of a list, and is made gray when
 /// marking begins, when nobody waits for it. Contracts see it gray from the first.
 pub(crate) struct RootedArea {
-    area: Area,
+    pub(crate) area: Area,
     // The roots that are still to be made gray.
-    noted: Vec<Name>,
+    pub(crate) noted: Vec<Name>,
     // Whether no other object is gray.
-    all_noted: bool,
+    pub(crate) all_noted: bool,
 }
 
 impl Drop for RootedArea {
@@ -73,7 +73,7 @@ fn gray_all(area: &mut Area, targets: &[Name])
 }
 
 // Makes the noted roots gray, after which none is noted.
-fn settle(area: &mut Area, noted: &mut Vec<Name>, all_noted: &mut bool)
+pub(crate) fn settle(area: &mut Area, noted: &mut Vec<Name>, all_noted: &mut bool)
     requires { HasDistinct area.old.segments }
     ensures area { area.new ≡ grayed_all area.old noted.old.items }
     ensures none { noted.new.items ≡ [] }

@@ -2,7 +2,7 @@
 //!
 //! A [`KernelCell`] has the objects, exit items and marks of the kernel's heap, which takes in whole the segments of processes
 //! that ended and of shared heaps that were absorbed. The contracts say what each call changes of the value that the laws of
-//! agreement speak of. Only [`KernelCell::make`] takes memory.
+//! agreement speak of. Only [`KernelCell::make`] and [`KernelCell::grow_objects`] take memory.
 #![tactic(auto)]
 
 mod changing;
