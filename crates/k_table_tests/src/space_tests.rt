@@ -29,6 +29,34 @@ fn a_slot_used_again_has_a_new_serial(rt: HostRuntime) -> Result<(), Fail> {
     Ok(())
 }
 
+// A full segment of one object gets room for three, and both objects stay where they are found; then it is left with room for two.
+#[test]
+fn a_full_segment_grows(rt: HostRuntime) -> Result<(), Fail> {
+    let first = Body::directory(rt.alloc(), 3)?;
+    let second = Body::directory(rt.alloc(), 3)?;
+    let mut segment = Segment::make(rt.alloc(), Seg(1), 1)?;
+    let one = segment.place(first);
+    assert!(rt; !segment.has_room());
+    segment.grow(3)?;
+    assert!(rt; segment.has_room());
+    let two = segment.place(second);
+    assert!(rt; segment.has_room());
+    assert!(rt; one.slot.0 != two.slot.0);
+    assert!(rt;
+        segment
+            .find(one.serial)
+            .is_some_and(|slot| slot.0 == one.slot.0)
+    );
+    assert!(rt;
+        segment
+            .find(two.serial)
+            .is_some_and(|slot| slot.0 == two.slot.0)
+    );
+    segment.narrow(2);
+    assert!(rt; !segment.has_room());
+    Ok(())
+}
+
 // An object of two references and an integer takes 40 bytes.
 #[test]
 fn a_new_object_has_its_type_and_size(rt: HostRuntime) -> Result<(), Fail> {
