@@ -36,7 +36,7 @@ module _ (basis : Basis) where
     table = table;
     stock = stock;
     exits = ap (λ (x : HeapRecord). x.exit_room) is ∙ serves.exits;
-    serials = λ now. subst (λ (x : HeapRecord). HasSegment x.serial_rooms (own_segment x.pid)) (sym is) (serves.serials (lives now));
+    serials = λ now. subst (λ (x : HeapRecord). HasSegment basis.rooms.objects x.serial_rooms (own_segment x.pid)) (sym is) (serves.serials (lives now));
     tail = subst (λ (x : HeapRecord). basis.rooms.tail ≤ x.tail_room) (sym is) serves.tail;
   }
 
@@ -48,7 +48,7 @@ module _ (basis : Basis) where
     agrees = agrees;
     table = table;
     exits = ap (λ (y : HoldingsValue). y.exit_room) is ∙ serves.exits;
-    serials = subst (λ (y : HoldingsValue). HasSegment y.serial_rooms 0) (sym is) serves.serials;
+    serials = subst (λ (y : HoldingsValue). HasSegment basis.rooms.objects y.serial_rooms 0) (sym is) serves.serials;
     numbers = subst (λ (y : HoldingsValue). segment_count basis.trace ≤ y.bound) (sym is) serves.numbers;
   }
 
@@ -108,5 +108,5 @@ module _ (basis : Basis) (old tie : TableId) (s x : SharedRecord) (rest : List E
     segment = ap (λ (y : SharedRecord). y.seg.0) is ∙ serves.segment ∙ ap (λ (y : SharedRecord). segment_of basis.trace (Shared y.id)) (sym is);
     idle = idle;
     exits = ap (λ (y : SharedRecord). y.exit_room) is ∙ serves.exits;
-    serials = λ now. subst (λ (y : SharedRecord). HasSegment y.serial_rooms y.seg.0) (sym is) (serves.serials (stood now));
+    serials = λ now. subst (λ (y : SharedRecord). HasSegment basis.rooms.objects y.serial_rooms y.seg.0) (sym is) (serves.serials (stood now));
   }

@@ -9,6 +9,7 @@ pub mod Lent
 pub mod Operated
 pub mod Refused
 pub use Rattle.k_operate.proofs.AbsorbKept
+pub use Rattle.k_guests.proofs.GrownServes
 pub use Rattle.k_guests.proofs.Objects
 pub use Rattle.k_guests.proofs.Reserve
 pub use Rattle.k_guests.proofs.ReserveShown

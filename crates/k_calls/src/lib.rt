@@ -25,7 +25,7 @@ pub use apart::{try_own, try_with_kernel, try_with_shared};
 pub use came::Came;
 pub use doing::{do_alone, reached};
 pub use errors::HostError;
-pub use k_guests::{Guest, Parts, Rooms, Terms, are_fit, make_parts};
+pub use k_guests::{Guest, Parts, Rooms, Terms, are_fit, are_larger, grow_parts, make_parts};
 pub use k_operate::{
     Reach, absorb, begin_heap, begin_kernel, end_heap, end_heap_listing, end_kernel,
     end_kernel_listing, exit, kill, mark_heap, mark_kernel, publish, settle_heap, settle_kernel,

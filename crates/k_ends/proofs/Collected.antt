@@ -243,10 +243,8 @@ module _ (basis : Basis) (g : Guest) (b : BookRecord) (can : CanGoOn basis g b) 
         agrees = d.ends.kernel_agrees;
         table = d.ends.kernel_table;
         exits = ap (λ (y : HoldingsValue). y.exit_room) d.ends.kernel_is ∙ kernel.exits;
-        serials = subst (λ (y : HoldingsValue). HasSegment y.serial_rooms 0) (sym d.ends.kernel_is) (record {
-          room = kernel.serials.room;
-          there = get_or-set_other k.serial_rooms (own_segment w.pid) 0 (get_or w.serial_rooms (own_segment w.pid) None) None (λ e. omega (arith, e)) ∙ kernel.serials.there;
-        });
+        serials = subst (λ (y : HoldingsValue). HasSegment basis.rooms.objects y.serial_rooms 0) (sym d.ends.kernel_is)
+            (get_or-set_other k.serial_rooms (own_segment w.pid) 0 (get_or w.serial_rooms (own_segment w.pid) None) None (λ e. omega (arith, e)) ∙ kernel.serials);
         numbers = subst (λ (y : HoldingsValue). segment_count basis.trace ≤ y.bound) (sym d.ends.kernel_is) kernel.numbers;
       };
       idle = d.ends.kernel_idle;
@@ -356,11 +354,8 @@ module _ (basis : Basis) (s : SharedRecord) (k : HoldingsValue) (b : BookRecord)
         agrees = d.kernel_agrees;
         table = d.kernel_table;
         exits = ap (λ (y : HoldingsValue). y.exit_room) d.kernel_is ∙ can.own.kernel.exits;
-        serials = subst (λ (y : HoldingsValue). HasSegment y.serial_rooms 0) (sym d.kernel_is) (record {
-          room = can.own.kernel.serials.room;
-          there =
-              get_or-set_other k.serial_rooms s.seg.0 0 (get_or s.serial_rooms s.seg.0 None) None (λ e. let at = can.shared.segment in omega (arith, at, e)) ∙ can.own.kernel.serials.there;
-        });
+        serials = subst (λ (y : HoldingsValue). HasSegment basis.rooms.objects y.serial_rooms 0) (sym d.kernel_is)
+            (get_or-set_other k.serial_rooms s.seg.0 0 (get_or s.serial_rooms s.seg.0 None) None (λ e. let at = can.shared.segment in omega (arith, at, e)) ∙ can.own.kernel.serials);
         numbers = subst (λ (y : HoldingsValue). segment_count basis.trace ≤ y.bound) (sym d.kernel_is) can.own.kernel.numbers;
       };
       book = book_appended basis b can.own.book m event d.book_is d.book_agrees d.journal d.possible

@@ -154,10 +154,8 @@ module _ (basis : Basis) (g t : Guest) (k : HoldingsValue) (b : BookRecord) (op 
           agrees = d.ends.kernel_agrees;
           table = d.ends.kernel_table;
           exits = ap (λ (z : HoldingsValue). z.exit_room) d.ends.kernel_is ∙ n.kernel.exits;
-          serials = subst (λ (z : HoldingsValue). HasSegment z.serial_rooms 0) (sym d.ends.kernel_is) (record {
-            room = n.kernel.serials.room;
-            there = get_or-set_other k.serial_rooms (own_segment u.pid) 0 (get_or u.serial_rooms (own_segment u.pid) None) None (λ i. omega (arith, i)) ∙ n.kernel.serials.there;
-          });
+          serials = subst (λ (z : HoldingsValue). HasSegment basis.rooms.objects z.serial_rooms 0) (sym d.ends.kernel_is)
+              (get_or-set_other k.serial_rooms (own_segment u.pid) 0 (get_or u.serial_rooms (own_segment u.pid) None) None (λ i. omega (arith, i)) ∙ n.kernel.serials);
           numbers = subst (λ (z : HoldingsValue). segment_count basis.trace ≤ z.bound) (sym d.ends.kernel_is) n.kernel.numbers;
         }
 

@@ -4,6 +4,7 @@ pub mod Wholly
 pub mod Killed
 pub use Rattle.k_calls.proofs.Staying
 pub use Rattle.k_calls.proofs.AbsorbKept
+pub use Rattle.k_calls.proofs.GrownServes
 pub use Rattle.k_calls.proofs.Objects
 pub use Rattle.k_calls.proofs.LocalKept
 pub use Rattle.k_calls.proofs.Looped

@@ -16,8 +16,8 @@ mod starting;
 mod whole;
 
 pub use k_calls::{
-    Came, Guest, HostError, Parts, Reach, Rooms, Terms, are_fit, make_parts, operate_with,
-    try_inside, try_own, try_publish, try_with_kernel, try_with_shared,
+    Came, Guest, HostError, Parts, Reach, Rooms, Terms, are_fit, are_larger, grow_parts,
+    make_parts, operate_with, try_inside, try_own, try_publish, try_with_kernel, try_with_shared,
 };
 pub use killing::try_kill;
 pub use starting::{

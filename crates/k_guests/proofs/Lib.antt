@@ -1,4 +1,8 @@
 pub mod Made
+pub mod Changed
+pub mod Grown
+pub mod GrownServes
+pub mod SegmentRooms
 pub mod Reserve
 pub mod Objects
 pub mod ReserveShown

@@ -80,13 +80,10 @@ module _ (terms : Terms) (can : CanMake terms) where
   basis = basis_of terms
 
   -- the one segment with which a cell begins is there
-  begins_with : (seg : ℕ) → seg < segment_count trace → HasSegment (map (λ number. cond (number == seg) (Some terms.rooms.objects) None) (numbers_below (segment_count trace))) seg
-  begins_with seg inside = record {
-    room = terms.rooms.objects;
-    there =
-        at_number (λ number. cond (number == seg) (Some terms.rooms.objects) None) 0 (segment_count trace) seg None inside
-        ∙ ap (λ t. cond t (Some terms.rooms.objects) None) (eq-eqb (0 + seg) seg (omega arith));
-  }
+  begins_with : (seg : ℕ) → seg < segment_count trace → HasSegment terms.rooms.objects (map (λ number. cond (number == seg) (Some terms.rooms.objects) None) (numbers_below (segment_count trace))) seg
+  begins_with seg inside =
+      at_number (λ number. cond (number == seg) (Some terms.rooms.objects) None) 0 (segment_count trace) seg None inside
+      ∙ ap (λ t. cond t (Some terms.rooms.objects) None) (eq-eqb (0 + seg) seg (omega arith))
 
   -- no exit item is there, and all processes live
   reserve_at_first : HasReserveAt basis (state_after trace [])

@@ -40,10 +40,9 @@ pub record Basis : Type 0 where
 abbrev pub basis_of : Terms → Basis
 basis_of terms = record { trace = open_trace terms.setup; names = terms.names; ty = terms.ty; rooms = terms.rooms }
 
--- by these rooms the segment is there
-pub record HasSegment (rooms : List (Option ℕ)) (seg : ℕ) : Type 0 where
-  pub room : ℕ
-  pub there : slice_index_or rooms seg None ≡ Some room
+-- by these rooms the segment is there, and so many of its objects can live at once
+abbrev pub HasSegment : ℕ → List (Option ℕ) → ℕ → Type 0
+HasSegment objects rooms seg = slice_index_or rooms seg None ≡ Some objects
 
 -- the exit items of the kernel's heap and those that are kept back for the processes that live, as many for each as it can have,
 -- are no more than the kernel's heap can have
@@ -58,7 +57,7 @@ pub record GuestServesWith (basis : Basis) (tie : TableId) (bodies : List BodyVa
   pub table : g.cell.note.table ≡ tie
   pub stock : g.cell.bodies ≡ bodies
   pub exits : g.cell.exit_room ≡ basis.rooms.exits
-  pub serials : IsFalse (has_ended_in g.cell.value.process) → HasSegment g.cell.serial_rooms (own_segment g.cell.pid)
+  pub serials : IsFalse (has_ended_in g.cell.value.process) → HasSegment basis.rooms.objects g.cell.serial_rooms (own_segment g.cell.pid)
   pub tail : basis.rooms.tail ≤ g.cell.tail_room
 
 -- the bodies of a supply: so many new ones, of the type that the terms name
@@ -80,7 +79,7 @@ pub record KernelServes (basis : Basis) (tie : TableId) (k : HoldingsValue) : Ty
   pub agrees : Agrees basis.trace Kernel k.note k.value
   pub table : k.note.table ≡ tie
   pub exits : k.exit_room ≡ basis.rooms.kernel_exits
-  pub serials : HasSegment k.serial_rooms 0
+  pub serials : HasSegment basis.rooms.objects k.serial_rooms 0
   pub numbers : segment_count basis.trace ≤ k.bound
 
 -- the cell of a shared heap agrees, is of the journal's table and begins with the heap's own segment, which it has until it is absorbed,
@@ -91,7 +90,7 @@ pub record SharedServes (basis : Basis) (tie : TableId) (s : SharedRecord) : Typ
   pub segment : s.seg.0 ≡ segment_of basis.trace (Shared s.id)
   pub idle : s.value.collection ≡ Idle
   pub exits : s.exit_room ≡ basis.rooms.exits
-  pub serials : IsFalse (is_absorbed_in s.value.phase) → HasSegment s.serial_rooms s.seg.0
+  pub serials : IsFalse (is_absorbed_in s.value.phase) → HasSegment basis.rooms.objects s.serial_rooms s.seg.0
 
 -- 32 bits count the objects of the machine after the journal
 abbrev pub HasFewObjectsIn : Basis → BookRecord → Type 0

@@ -6,12 +6,15 @@
 //! table, and has as much room as the terms say. The kernel's heap has room besides for what comes to it when the processes end.
 #![tactic(auto)]
 
+mod growing;
 mod guest;
 mod laws;
 mod making;
 mod rooms;
+mod segments;
 mod terms;
 
+pub use growing::{GuestRoom, Larger, are_larger, grow_parts};
 pub use guest::Guest;
 pub use laws::{objects_come_and_go, what_is_kept_back_is_enough};
 pub use making::{Parts, are_fit, make_parts};

@@ -41,7 +41,7 @@ pub struct Parts {
 }
 
 /// Whether there are fewer than 2^55 events, and each of the other rooms is below 2^30.
-fn are_few(rooms: &Rooms) -> bool
+pub(crate) fn are_few(rooms: &Rooms) -> bool
     ensures { IsTrue result ↔ AreFew rooms.now }
 {
     rooms.events < EVENTS_BELOW
@@ -54,7 +54,7 @@ fn are_few(rooms: &Rooms) -> bool
 }
 
 /// Whether so many exit items of the kernel's heap are enough for those of all processes.
-fn has_reserve(procs: usize, exits: u32, kernel_exits: u32) -> bool
+pub(crate) fn has_reserve(procs: usize, exits: u32, kernel_exits: u32) -> bool
     ensures { IsTrue result ↔ (exits * procs ≤ kernel_exits) }
 {
     match (exits as usize).checked_mul(procs) {
@@ -64,7 +64,7 @@ fn has_reserve(procs: usize, exits: u32, kernel_exits: u32) -> bool
 }
 
 /// Whether the rooms are enough for a host of so many processes.
-fn are_enough(procs: usize, rooms: &Rooms) -> bool
+pub(crate) fn are_enough(procs: usize, rooms: &Rooms) -> bool
     ensures { IsTrue result ↔ AreEnough procs rooms.now }
 {
     u64::from(rooms.kept) <= rooms.events

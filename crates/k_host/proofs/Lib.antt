@@ -8,6 +8,7 @@ pub mod Split
 pub mod KilledIn
 pub mod InsideCharges
 pub mod Charged
+pub mod Grown
 pub use Rattle.k_ends.proofs.AbsorbKept
 pub use Rattle.k_ends.proofs.Objects
 pub use Rattle.k_ends.proofs.LocalKept

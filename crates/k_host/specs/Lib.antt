@@ -5,6 +5,7 @@ pub mod Killing
 pub mod Refusals
 pub mod Twins
 pub mod Asked
+pub mod Growing
 pub use Rattle.k_ends.specs.Refusals as EndsRefusals
 pub use Rattle.k_ends.specs.Whole
 pub use Rattle.k_ends.specs.HostError

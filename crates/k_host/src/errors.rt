@@ -1,4 +1,4 @@
-//! Why no host is made.
+//! Why no host is made, and why none is made larger.
 ghost use Rattle.std.specs.Prelude.{◌≡◌};
 
 use k_io::NoMemory;
@@ -21,5 +21,24 @@ impl From<NoMemory> for OpenError {
 
     fn from(refused: NoMemory) -> OpenError {
         OpenError::NoMemory(refused)
+    }
+}
+
+/// Why a host gets no larger rooms.
+#[derive(Clone, Copy, Debug, PartialEq, Eq)]
+pub enum GrowError {
+    /// Memory ran out.
+    NoMemory(NoMemory),
+    /// The rooms are no larger ones, or more than a host can be asked to have.
+    Rooms,
+}
+
+impl From<NoMemory> for GrowError {
+    ghost use Rattle.k_host.specs.declared.errors.GrowError.TheVariants as grow_errors;
+
+    ghost from_gives = { λ refused e. e ≡ grow_errors.NoMemory refused };
+
+    fn from(refused: NoMemory) -> GrowError {
+        GrowError::NoMemory(refused)
     }
 }

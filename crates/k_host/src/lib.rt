@@ -10,6 +10,8 @@
 //!
 //! A whole collection writes the names of what it freed into a list, [`Freed`].
 //!
+//! [`Host::grow`] gives a host larger rooms while it lives.
+//!
 //! [`Host::into_parts`] takes a host apart, for calls over its parts.
 //!
 //! A [`Twin`] is the machine on one thread beside a host, which takes the events that the host answers.
@@ -18,6 +20,7 @@
 mod asking;
 mod collections;
 mod errors;
+mod growing;
 mod host;
 mod killing;
 mod laws;
@@ -26,7 +29,7 @@ mod parting;
 mod places;
 mod twin;
 
-pub use errors::OpenError;
+pub use errors::{GrowError, OpenError};
 pub use host::Host;
 pub use k_ends::{HostError, Rooms, Terms};
 pub use k_mark::Freed;
