@@ -312,17 +312,22 @@ typedef struct kaffe_event {
     kaffe_answer came;   /* what it was answered: for a collection nothing, and for its end what it freed */
 } kaffe_event;
 
-/* Reads the event of that number. Answers 1, or 0 where there is none yet or where it is older than the last that are kept. Constant time. */
-static inline int kaffe_event_at(kaffe_host *h, uint64_t number, kaffe_event *event) {
-    kaffe_answer asked = kaffe_request_call(h, KAFFE_ASK_EVENT, 0, 0, 0, 0, 0, number);
+/* The event of that number, by what is told of its request and of its answer. Answers 0 where there is none. */
+static inline int kaffe_event_of(uint64_t number, kaffe_answer asked, kaffe_answer came, kaffe_event *event) {
     if (asked.status) return 0;
     uint32_t call = asked.what - KAFFE_ASKED, to = call == KAFFE_CALL_SNEW ? (uint32_t)asked.number : 0;
     kaffe_request q = {call, asked.at, asked.seg, to, (uint8_t)(asked.serial % 256), (uint8_t)(asked.serial / 256), 0, 0, 0,
                        call == KAFFE_CALL_SNEW ? 0 : asked.number};
     event->number = number;
     event->asked = q;
-    event->came = kaffe_request_call(h, KAFFE_ASK_CAME, 0, 0, 0, 0, 0, number);
+    event->came = came;
     return 1;
+}
+
+/* Reads the event of that number. Answers 1, or 0 where there is none yet or where it is older than the last that are kept. Constant time. */
+static inline int kaffe_event_at(kaffe_host *h, uint64_t number, kaffe_event *event) {
+    kaffe_answer asked = kaffe_request_call(h, KAFFE_ASK_EVENT, 0, 0, 0, 0, 0, number);
+    return kaffe_event_of(number, asked, kaffe_request_call(h, KAFFE_ASK_CAME, 0, 0, 0, 0, 0, number), event);
 }
 
 /* Takes out the next event, the first that is still kept and was not taken out before. Answers 1, or 0 where there is none. So each event is

@@ -44,8 +44,10 @@ enum kaffe_part_what {
    shared heaps by rising number, the book's; after these it leaves an empty place. A row and a part are closed each by itself.
 
    In the requests of the calls pid counts for nothing, and `at` of a process or shared heap neither where that is a part that is lent.
-   kaffe_call_one   a process: an operation inside its heap, or a question. The kernel, a shared heap, the book: a question
-   kaffe_call_two   a process and the book: an operation, KAFFE_CALL_COLLECT, and KAFFE_CALL_PUBLISH of what the process did inside its heap
+   kaffe_call_one   a process: an operation inside its heap, or a question. The kernel, a shared heap, the book: a question; the book:
+                    KAFFE_CALL_TAKE
+   kaffe_call_two   a process and the book: an operation, KAFFE_CALL_COLLECT, KAFFE_CALL_PUBLISH of what the process did inside its heap, and
+                    KAFFE_ASK_CHARGE
    kaffe_call_three a process, the kernel, the book: an operation, KAFFE_CALL_KCOLLECT, KAFFE_CALL_KILL of the process; a process, a shared
                     heap, the book: an operation; a shared heap, the kernel, the book: KAFFE_CALL_ABSORB
    kaffe_call_four  a process, the one that it kills, the kernel, the book: KAFFE_CALL_KILL_BY */
@@ -63,6 +65,24 @@ void kaffe_part_close(kaffe_part *part);
 static inline kaffe_request kaffe_asked(uint32_t call, uint32_t at, uint32_t to, uint8_t reg, uint8_t base, uint64_t number) {
     kaffe_request q = {call, 0, at, to, reg, base, 0, 0, 0, number};
     return q;
+}
+
+/* The bytes that the process is charged, by its part and the book's: its heap, and each shared heap that it shares in full. 0 once it has
+   ended, and where the parts are not of one host. */
+static inline uint64_t kaffe_part_charge(kaffe_part *guest, kaffe_part *book) {
+    return kaffe_call_two(guest, book, kaffe_asked(KAFFE_ASK_CHARGE, 0, 0, 0, 0, 0)).number;
+}
+
+/* Reads the event of that number, as kaffe_event_at, from the book's part. */
+static inline int kaffe_part_event_at(kaffe_part *book, uint64_t number, kaffe_event *event) {
+    kaffe_answer asked = kaffe_call_one(book, kaffe_asked(KAFFE_ASK_EVENT, 0, 0, 0, 0, number));
+    return kaffe_event_of(number, asked, kaffe_call_one(book, kaffe_asked(KAFFE_ASK_CAME, 0, 0, 0, 0, number)), event);
+}
+
+/* Takes out the next event, as kaffe_take, from the book's part: each is given at most once, whichever thread takes it, and in order. */
+static inline int kaffe_part_take_event(kaffe_part *book, kaffe_event *event) {
+    kaffe_answer a = kaffe_call_one(book, kaffe_asked(KAFFE_CALL_TAKE, 0, 0, 0, 0, 0));
+    return a.status == KAFFE_OK && a.what == KAFFE_NUMBER && kaffe_part_event_at(book, a.number, event);
 }
 
 /* All parts of a host: the processes, the kernel's, the shared heaps, the book's. */

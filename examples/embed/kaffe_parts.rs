@@ -1,8 +1,8 @@
 //! A host in parts, which several threads drive: each part is behind a lock of its own, and a call takes those of the parts that its event
 //! touches, in the order: processes by rising number, the kernel's, a shared heap's, the book's. `kaffe.rs` has this as a module.
 use super::{
-    Answer, Event, Freed, Lack, LimitId, Name, Opaque, OpenError, Pid, Refusal, Reg, Request, Rooms, SharedId, TypeId, asked_of, call,
-    came_of, freed, lack_of, lines_of, name, refusal_of, target,
+    Answer, Event, Freed, Lack, LimitId, Name, Opaque, OpenError, Pid, Refusal, Reg, Request, Rooms, SharedId, Taken, TypeId, asked_of,
+    call, came_of, freed, lack_of, lines_of, name, refusal_of, target,
 };
 use std::sync::{Mutex, MutexGuard, PoisonError};
 
@@ -353,6 +353,13 @@ impl Parts {
         self.of_guest(pid, call::BYTES)
     }
 
+    /// The bytes that the process is charged: its heap, and each shared heap that it shares in full.
+    pub fn charge(&self, pid: Pid) -> Option<u64> {
+        let mut guest = self.guest(pid).ok()?;
+        let answer = over::two(&mut guest, &mut locked(&self.book), Request { call: call::CHARGE, ..Request::default() });
+        (answer.status == 0).then_some(answer.number)
+    }
+
     /// What the register holds.
     pub fn register(&self, pid: Pid, Reg(reg): Reg) -> Result<Option<Name>, Refusal> {
         result_of(self.guest(pid)?.ask(Request { call: call::REGISTER, reg, ..Request::default() })).map(target)
@@ -401,11 +408,24 @@ impl Parts {
 
     /// The event of that number, from 0. `None` where there is none yet, or where it is older than the last that are kept.
     pub fn event(&self, number: u64) -> Option<Event> {
-        let mut book = locked(&self.book);
-        let asked = book.ask(Request { call: call::EVENT, number, ..Request::default() });
-        let came = book.ask(Request { call: call::CAME, number, ..Request::default() });
-        (asked.status == 0).then(|| asked_of(asked).map(|asked| Event { asked, came: came_of(came) })).flatten()
+        event_in(&mut locked(&self.book), number)
     }
+
+    /// Takes out the next event, the first that is still kept and was not taken out before. So each event is given at most once, whichever
+    /// thread takes it, and in order, and a gap in the numbers tells how many were forgotten before they were taken.
+    pub fn take_event(&self) -> Option<Taken> {
+        let mut book = locked(&self.book);
+        let answer = book.ask(Request { call: call::TAKE, ..Request::default() });
+        let number = (answer.status == 0 && answer.what == 2).then_some(answer.number)?;
+        event_in(&mut book, number).map(|event| Taken { number, event })
+    }
+}
+
+/// The event of that number.
+fn event_in(book: &mut Part, number: u64) -> Option<Event> {
+    let asked = book.ask(Request { call: call::EVENT, number, ..Request::default() });
+    let came = book.ask(Request { call: call::CAME, number, ..Request::default() });
+    (asked.status == 0).then(|| asked_of(asked).map(|asked| Event { asked, came: came_of(came) })).flatten()
 }
 
 /// The names of the objects that the last collection freed.

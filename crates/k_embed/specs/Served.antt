@@ -21,7 +21,7 @@ use Rattle.k_keeper.specs.Asked.{charge_told, done_by, has_ended_of, heap_bytes_
 use Rattle.k_keeper.specs.Calls.{HasAbsorbedIn, HasCollectedIn, HasExitedIn, HasOperatedIn}
 use Rattle.k_keeper.specs.Whole.{AreFreedLast}
 use Rattle.k_keeper.specs.Keeping.{KeeperValue}
-use Rattle.k_keeper.specs.declared.taking.Taken.{Taken}
+use Rattle.k_keeper.specs.k_host.declared.taking.Taken.{Taken}
 use Rattle.k_keeper.specs.Kept.{HasCollectedAll, HasOpened, HasTaken, HasTakenNone, IsGone, IsNotOpened, MayRefuseCollection, MayRefuseKernel, MayRefuseOperation, MayRefuseToAbsorb}
 use Rattle.k_embed.specs.declared.doing.Whole.{Whole}
 use Rattle.k_embed.specs.declared.doing.Whole.TheVariants.{Absorb, Collect, CollectKernel, Kill}

@@ -129,7 +129,7 @@ pub(crate) fn is_take(request: &Request) -> bool
 }
 
 /// The number of the event that was taken out, where there was one.
-fn of_taken(came: Option<Taken>) -> Answer
+pub fn of_taken(came: Option<Taken>) -> Answer
     ensures { result ≡ of_taken came }
 {
     match came {

@@ -18,7 +18,7 @@ pub use codes::{
     unknown,
 };
 pub use doing::{Whole, operation};
-pub use events::{seen_asked, seen_came, take_next};
+pub use events::{of_taken, seen_asked, seen_came, take_next};
 pub use messages::{Answer, Request, Rooms};
 pub use serving::{Slot, act, act_whole, opened, read, reasons, rooms_for, rooms_of, serve};
 pub use texts::{print, publish};

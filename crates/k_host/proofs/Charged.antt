@@ -121,31 +121,31 @@ shares_small trace history p book rules legal known booked = go (among p st.ende
         let same = told in
         omega (arith, charge, small, same)
 
--- what a host that serves tells fits 64 bits
+-- what is told of a process that serves with the book fits 64 bits
+module _ {basis : Basis} {b : BookRecord} {g : Guest} (guest : GuestServes basis b.journal.table g) (serves : BookServes basis b) where
+  rules : KeepsRules basis.trace
+  rules = serves.stands.keeps
+
+  pub known : g.cell.pid.0 < process_count basis.trace
+  known = guest.agrees.there
+
+  pub process_there : g.cell.pid.0 < length b.procs
+  process_there = let same = ap length serves.stands.of_trace.procs in let inside = known in omega (arith, same, inside)
+
+  pub heaps_are : basis.trace.shared_heaps ≡ length b.value.phases
+  unfolding book_part
+  heaps_are = sym (ap (λ (x : BookPart). length x.phases) serves.stands.agrees.shows.part ∙ (legal_sound basis.trace b.journal.list rules.limits serves.stands.agrees.legal).shape.sized.phases)
+
+  pub charge_fits : IsFalse (has_ended_in g.cell.value.process) → charged basis.trace b.value g.cell.value g.cell.pid.0 < 2 ^ 64
+  charge_fits lives =
+      let own = objects_small basis.trace (g.cell.note.list ++ g.cell.value.tail) g.cell.pid.0 g.cell.value rules guest.agrees.legal known guest.agrees.shows lives in
+      let others = shares_small basis.trace b.journal.list g.cell.pid.0 b.value rules serves.stands.agrees.legal known serves.stands.agrees.shows in
+      omega (arith, own, others)
+
+-- what a host that serves tells
 module _ (h : HostValue) (n : ℕ) (g : Guest) (serves : HostServes h) (there : slice_get h.guests n ≡ Some g) where
   guest : GuestServes h.basis h.book.journal.table g
   guest = serves.all.each n g there
-
-  rules : KeepsRules h.basis.trace
-  rules = serves.rest.book.stands.keeps
-
-  pub known : g.cell.pid.0 < process_count h.basis.trace
-  known = guest.agrees.there
-
-  pub process_there : g.cell.pid.0 < length h.book.procs
-  process_there = let same = ap length serves.rest.book.stands.of_trace.procs in let inside = known in omega (arith, same, inside)
-
-  pub heaps_are : h.basis.trace.shared_heaps ≡ length h.book.value.phases
-  unfolding book_part
-  heaps_are =
-      sym (ap (λ (x : BookPart). length x.phases) serves.rest.book.stands.agrees.shows.part
-      ∙ (legal_sound h.basis.trace h.book.journal.list rules.limits serves.rest.book.stands.agrees.legal).shape.sized.phases)
-
-  pub charge_fits : IsFalse (has_ended_in g.cell.value.process) → charged h.basis.trace h.book.value g.cell.value g.cell.pid.0 < 2 ^ 64
-  charge_fits lives =
-      let own = objects_small h.basis.trace (g.cell.note.list ++ g.cell.value.tail) g.cell.pid.0 g.cell.value rules guest.agrees.legal known guest.agrees.shows lives in
-      let others = shares_small h.basis.trace h.book.journal.list g.cell.pid.0 h.book.value rules serves.rest.book.stands.agrees.legal known serves.rest.book.stands.agrees.shows in
-      omega (arith, own, others)
 
   -- where the journal has nothing of the process that its cell does not know, it is the machine's charge after the journal and what the
   -- process has not published, and so after the journal
@@ -170,13 +170,13 @@ module _ (h : HostValue) (n : ℕ) (g : Guest) (serves : HostServes h) (there : 
 
     pub charge_of_machine : told_charge h g ≡ charge_of h.basis.trace st n
     charge_of_machine =
-        charge_is h.basis.trace st g.cell.pid.0 g.cell.value h.book.value (legal_sound h.basis.trace (h.book.journal.list ++ g.cell.value.tail) rules.limits met.agrees.legal) met.agrees.shows booked
+        charge_is h.basis.trace st g.cell.pid.0 g.cell.value h.book.value (legal_sound h.basis.trace (h.book.journal.list ++ g.cell.value.tail) serves.rest.book.stands.keeps.limits met.agrees.legal) met.agrees.shows booked
         ∙ ap (charge_of h.basis.trace st) (serves.all.placed n g there)
 
     pub charge_in_journal : told_charge h g ≡ charge_of h.basis.trace now n
     charge_in_journal =
         charge_of_machine
-        ∙ inside_is_free h.basis.trace rules.limits g.cell.pid.0 n h.book.journal.list g.cell.value.tail met.agrees.legal serves.rest.book.stands.agrees.legal met.agrees.tail
+        ∙ inside_is_free h.basis.trace serves.rest.book.stands.keeps.limits g.cell.pid.0 n h.book.journal.list g.cell.value.tail met.agrees.legal serves.rest.book.stands.agrees.legal met.agrees.tail
 
 -- a process whose cell has met the journal serves as before
 pub met_serves : (basis : Basis) (g h : Guest) (b : BookRecord) → GuestServes basis b.journal.table g → BookServes basis b → HasMetTheJournal b g h → KeepsRoom basis g h b b

@@ -1,5 +1,5 @@
 -- What is seen of a host, and what it keeps.
-use Rattle.std.specs.Prelude.{◌≡◌, ℕ, ◌+◌, nat_lt, if◌then◌else◌, List, Option, Some, None, [], length, slice_get}
+use Rattle.std.specs.Prelude.{◌≡◌, ℕ, ◌+◌, ◌-◌, nat_lt, if◌then◌else◌, List, Option, Some, None, [], length, slice_get}
 use Rattle.k_types.specs.declared.event.Event.{Event}
 use Rattle.k_types.specs.declared.names.CellPhase.{CellPhase}
 use Rattle.k_types.specs.declared.names.CellPhase.TheVariants.{Idle}
@@ -9,6 +9,7 @@ use Rattle.k_shared.specs.SharedHeaps.{SharedRecord}
 use Rattle.k_ends.specs.k_guests.declared.guest.Guest.{Guest}
 use Rattle.k_ends.specs.k_guests.declared.making.Parts.{Parts}
 use Rattle.k_ends.specs.k_guests.declared.terms.Terms.{Terms}
+use Rattle.k_ends.specs.k_guests.Enough.{greater}
 use Rattle.k_ends.specs.k_guests.Making.{IsFirstGuest}
 use Rattle.k_ends.specs.k_guests.Serving.{Basis, GuestsServe, HasTailRoom, RestServes, basis_of}
 
@@ -37,6 +38,10 @@ pub record HostServes (h : HostValue) : Type 0 where
 -- the event of that number, where it is among the last that can be read
 abbrev pub event_of : HostValue → ℕ → Option Event
 event_of h number = if nat_lt (number + h.basis.rooms.kept) (length h.book.journal.list) then None else slice_get h.book.journal.list number
+
+-- the number of the first event from that one on that is still among the last so many
+abbrev pub next_from : BookRecord → ℕ → ℕ → ℕ
+next_from b kept from = greater from (length b.journal.list - kept)
 
 -- how many events of the process the journal lacks
 abbrev pub unpublished_of : Guest → ℕ

@@ -7,8 +7,8 @@ ghost use Rattle.k_types.specs.Totals.{total};
 ghost use Rattle.k_agree.specs.GivingOnTheBook.{charged};
 ghost use Rattle.k_limits.specs.Limits.{use_at};
 ghost use Rattle.k_book.specs.Books.{book_limits};
-ghost use Rattle.k_ends.specs.k_guests.Serving.{basis_of};
-ghost use Rattle.k_host.specs.Asked.{charge_told, done_by, heap_bytes_of, held_by, has_ended_of};
+ghost use Rattle.k_ends.specs.k_guests.Serving.{BookServes, GuestServes, basis_of};
+ghost use Rattle.k_host.specs.Asked.{charge_by, charge_told, done_by, heap_bytes_of, held_by, has_ended_of};
 ghost use Rattle.k_host.specs.Calls.{HasMetIn, HasMetTheJournal};
 
 use crate::host::Host;
@@ -120,10 +120,7 @@ impl Host {
         ensures { result ≡ option_map (charge_told self.now) (slice_get self.now.guests pid.0) }
     {
         let guest = self.guests.get(pid.0 as usize)?;
-        if !guest.cell.lives() {
-            return Some(0);
-        }
-        Some(charged(&self.terms, &guest.cell, &self.book))
+        Some(charge_by(&self.terms, guest, &self.book))
     }
 }
 
@@ -134,6 +131,19 @@ fn meet_guest(guest: &mut Guest, book: &mut Book)
     ensures same { book.new ≡ book.old }
 {
     book.meet(guest.cell.note_mut());
+}
+
+/// What a process is charged, by its cell and the book: the bytes of its heap and of each heap that it shares, and nothing once it has
+/// ended. It looks at each shared heap.
+pub fn charge_by(terms: &Terms, guest: &Guest, book: &Book) -> u64
+    requires guest { GuestServes (basis_of terms.now) book.now.journal.table guest.now }
+    requires book { BookServes (basis_of terms.now) book.now }
+    ensures { result ≡ charge_by (basis_of terms.now).trace book.now.value guest.now }
+{
+    if !guest.cell.lives() {
+        return 0;
+    }
+    charged(terms, &guest.cell, book)
 }
 
 /// What a living process is charged, by its cell and the book.

@@ -12,6 +12,9 @@
 //!
 //! [`Host::grow`] gives a host larger rooms while it lives.
 //!
+//! [`next_from`] reads the next event that a caller takes out of the journal, and [`charge_by`] what a process is charged, over the parts of
+//! a host.
+//!
 //! [`Host::into_parts`] takes a host apart, for calls over its parts.
 //!
 //! A [`Twin`] is the machine on one thread beside a host, which takes the events that the host answers.
@@ -27,11 +30,14 @@ mod laws;
 mod looking;
 mod parting;
 mod places;
+mod taking;
 mod twin;
 
+pub use asking::charge_by;
 pub use errors::{GrowError, OpenError};
 pub use host::Host;
 pub use k_ends::{HostError, Rooms, Terms};
 pub use k_mark::Freed;
 pub use laws::charges_are_the_machines;
+pub use taking::{Taken, next_from};
 pub use twin::Twin;

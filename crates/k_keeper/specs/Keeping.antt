@@ -6,14 +6,14 @@ use Rattle.k_types.specs.declared.names.Name.{Name}
 use Rattle.k_types.specs.Totals.{total}
 use Rattle.k_types.specs.Trace.{segment_count}
 use Rattle.k_spell.specs.Spelled.{AreSpelled}
-use Rattle.k_host.specs.k_guests.Enough.{greater, lesser}
+use Rattle.k_host.specs.k_guests.Enough.{lesser}
 use Rattle.k_host.specs.k_guests.Objects.{gone_by, made_by, objects_after}
 use Rattle.k_host.specs.k_guests.declared.guest.Guest.{Guest}
 use Rattle.k_host.specs.k_guests.Serving.{Basis}
 use Rattle.k_host.specs.k_trace.Rules.{IsTrace}
 use Rattle.k_host.specs.HostError.{HostError}
 use Rattle.k_host.specs.Asked.{has_ended_of}
-use Rattle.k_host.specs.Hosts.{HostServes, HostValue}
+use Rattle.k_host.specs.Hosts.{HostServes, HostValue, next_from}
 
 -- how many events the journal will have of the process when it ends now: what it has not published, and its end
 abbrev pub owed_by : Guest → ℕ
@@ -73,7 +73,7 @@ pub record KeeperValue : Type 0 where
 
 -- the number of the first event that was neither taken out nor passed over, and is still among those that are kept
 abbrev pub next_event : KeeperValue → ℕ
-next_event k = greater k.taken (length k.host.book.journal.list - k.host.basis.rooms.kept)
+next_event k = next_from k.host.book k.host.basis.rooms.kept k.taken
 
 -- how many events a collection of the kernel's heap asks for: its beginning and end, and an absorption of each shared heap
 abbrev pub needed_by_the_kernel : HostValue → ℕ

@@ -13,8 +13,7 @@ use crate::rooms::{
     fits, has_object_left, left_after, most_objects, needed_by_the_kernel, needed_to_absorb,
     needed_to_collect, needed_to_operate, objects_then,
 };
-use crate::taking::{Taken, take_next};
-use k_host::{Freed, Host, HostError, OpenError, Rooms};
+use k_host::{Freed, Host, HostError, OpenError, Rooms, Taken};
 use k_types::{Event, Name, Op, Pid, SharedId, TypeId};
 use std::alloc::Global;
 use std::marker::Model;
@@ -121,7 +120,7 @@ impl Keeper {
         ensures taken { IfSome result (λ t. HasTaken self.old self.new t.number t.event) }
         ensures none { IfNone result (HasTakenNone self.old self.new) }
     {
-        let taken = take_next(&self.host, self.taken)?;
+        let taken = self.host.next_from(self.taken)?;
         self.taken = taken.number + 1;
         Some(taken)
     }

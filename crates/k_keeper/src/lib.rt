@@ -11,8 +11,6 @@ mod alive;
 mod keeper;
 mod publishing;
 mod rooms;
-mod taking;
 
-pub use k_host::{Freed, Host, HostError, OpenError, Rooms, Twin};
+pub use k_host::{Freed, Host, HostError, OpenError, Rooms, Taken, Twin};
 pub use keeper::Keeper;
-pub use taking::Taken;

@@ -45,7 +45,7 @@ pub shared_held : {named : Option Home} (head : Head) (s : SharedRecord) {old : 
     Held SharedServes named head s.note.table s old.home old.heap
 shared_held head s is rests = record { rests = rests; home_is = ap (λ (v : SharedPartValue). v.home) is; part_is = ap (λ (v : SharedPartValue). v.heap) is }
 
-pub book_held : {named : Option Home} (head : Head) (b : BookRecord) (n : FreedNames) {old : BookPartValue} → book_seen head b n ≡ old → BookRests named (home_at head b.journal.table) b →
+pub book_held : {named : Option Home} (head : Head) (b : BookRecord) (n : FreedNames) {taken : ℕ} {old : BookPartValue} → book_seen head b n taken ≡ old → BookRests named (home_at head b.journal.table) b →
     Held BookServesApart named head b.journal.table b old.home old.book
 book_held head b n is rests = record { rests = rests; home_is = ap (λ (v : BookPartValue). v.home) is; part_is = ap (λ (v : BookPartValue). v.book) is }
 
@@ -69,17 +69,17 @@ module _ {A B : Type 0} {S : Basis → TableId → A → Type 0} {T : Basis → 
   pub was_one : AreOne home other_home → head.number ≡ other.number
   was_one one = own_number ∙ one ∙ sym other_number
 
-abbrev book_part : Home → BookRecord → List Name → ℕ → BookPartValue
-book_part home b freed room = record { home = home; book = b; freed = freed; room = room }
+abbrev book_part : Home → BookRecord → List Name → ℕ → ℕ → BookPartValue
+book_part home b freed room taken = record { home = home; book = b; freed = freed; room = room; taken = taken }
 
 -- nothing of the book's part has changed but the book, or that and the names of what was freed
-module _ (head : Head) (b : BookRecord) (n : FreedNames) {old : BookPartValue} (is : book_seen head b n ≡ old) (l : BookRecord) where
-  pub book_changed : home_at head l.journal.table ≡ old.home → book_seen head l n ≡ record old { book = l }
-  book_changed stays = ap (λ (h : Home). book_part h l n.names n.room) stays ∙ ap (λ (v : BookPartValue). book_part old.home l v.freed v.room) is
+module _ (head : Head) (b : BookRecord) (n : FreedNames) {taken : ℕ} {old : BookPartValue} (is : book_seen head b n taken ≡ old) (l : BookRecord) where
+  pub book_changed : home_at head l.journal.table ≡ old.home → book_seen head l n taken ≡ record old { book = l }
+  book_changed stays = ap (λ (h : Home). book_part h l n.names n.room taken) stays ∙ ap (λ (v : BookPartValue). book_part old.home l v.freed v.room v.taken) is
 
-  pub book_collected : (m : FreedNames) → m.room ≡ n.room → home_at head l.journal.table ≡ old.home → book_seen head l m ≡ record old { book = l; freed = m.names }
+  pub book_collected : (m : FreedNames) → m.room ≡ n.room → home_at head l.journal.table ≡ old.home → book_seen head l m taken ≡ record old { book = l; freed = m.names }
   book_collected m same stays =
-      ap (λ (h : Home). book_part h l m.names m.room) stays ∙ ap (λ (k : ℕ). book_part old.home l m.names k) same ∙ ap (λ (v : BookPartValue). book_part old.home l m.names v.room) is
+      ap (λ (h : Home). book_part h l m.names m.room taken) stays ∙ ap (λ (k : ℕ). book_part old.home l m.names k taken) same ∙ ap (λ (v : BookPartValue). book_part old.home l m.names v.room v.taken) is
 
 -- a part that is of the host of the first one that the call is lent; what the call reads of the first part is seen of its home
 pub record Lent {A : Type 0} (Serves : Basis → TableId → A → Type 0) (basis : Basis) (table : TableId) (named : Option Home) (head : Head) (own_table : TableId) (part : A) (home : Home) (seen : A) : Type 0 where

@@ -25,7 +25,7 @@ abbrev kernel_in : Home → HoldingsValue → KernelPartValue
 kernel_in home k = record { home = home; kernel = k }
 
 abbrev book_in : Home → BookRecord → ℕ → BookPartValue
-book_in home b most = record { home = home; book = b; freed = []; room = most }
+book_in home b most = record { home = home; book = b; freed = []; room = most; taken = 0 }
 
 module _ (named : Option Home) (h : HostValue) (number : ℕ) (serves : HostServes h) (of_host : IsOf named (home_of h number)) (head : Head) (basis_is : basis_of head.terms ≡ h.basis) (numbered : head.number ≡ number) where
   pub the_home : (table : TableId) → table ≡ h.book.journal.table → home_at head table ≡ home_of h number
@@ -58,5 +58,5 @@ module _ (named : Option Home) (h : HostValue) (number : ℕ) (serves : HostServ
   pub kernel_is_seen : kernel_seen head h.kernel ≡ record { home = home_of h number; kernel = h.kernel }
   kernel_is_seen = ap (λ (x : Home). kernel_in x h.kernel) (the_home h.kernel.note.table serves.rest.kernel.table)
 
-  pub book_is_seen : (most : ℕ) → book_seen head h.book (record { names = []; room = most }) ≡ record { home = home_of h number; book = h.book; freed = []; room = most }
+  pub book_is_seen : (most : ℕ) → book_seen head h.book (record { names = []; room = most }) 0 ≡ record { home = home_of h number; book = h.book; freed = []; room = most; taken = 0 }
   book_is_seen most = ap (λ (x : Home). book_in x h.book most) (the_home h.book.journal.table refl)

@@ -1,5 +1,5 @@
 -- What the calls over parts answer, and when they are refused.
-use Rattle.std.specs.Prelude.{◌≡◌, ◌≤◌, IfErr, IfNone, IfOk, IfSome, OnErr, OnOk, Option, Result, Ok, Err, is_some}
+use Rattle.std.specs.Prelude.{◌≡◌, ℕ, ◌+◌, ◌≤◌, IfErr, IfNone, IfOk, IfSome, OnErr, OnOk, Option, Some, Result, Ok, Err, is_some, length, slice_get}
 use Rattle.std.specs.Bool.{⊤}
 use Rattle.k_types.specs.declared.event.Event.{Event}
 use Rattle.k_types.specs.declared.event.Reply.{Reply}
@@ -17,9 +17,11 @@ use Rattle.k_ends.specs.Killing.{CanNotKill, HasTriedToKill}
 use Rattle.k_ends.specs.Refusals.{CanNotAbsorb, CanNotExit}
 use Rattle.k_ends.specs.Whole.{AreFreedLast, CanNotCollect, CanNotCollectKernel, HasCollected, HasCollectedKernel}
 use Rattle.k_ends.specs.k_guests.Objects.{objects_after}
+use Rattle.k_host.specs.declared.taking.Taken.{Taken}
 use Rattle.k_parts.specs.declared.errors.PartError.{PartError}
 use Rattle.k_parts.specs.declared.errors.PartError.TheVariants.{Host, Mixed}
 use Rattle.k_parts.specs.Parts.{BookPartValue, GuestPartValue, Home, KernelPartValue, SharedPartValue}
+use Rattle.k_parts.specs.Told.{next_event}
 
 -- what comes of a call, where its parts are of one host
 abbrev pub hosted : {T : Type 0} → Result T HostError → Result T PartError
@@ -42,6 +44,22 @@ HasChangedBook old new = new ≡ record old { book = new.book }
 -- nor but the book and the names of what was freed
 abbrev pub HasCollectedOnBook : BookPartValue → BookPartValue → Type 0
 HasCollectedOnBook old new = new ≡ record old { book = new.book; freed = new.freed }
+
+-- the next event is taken out, which can still be read, and nothing else has changed
+pub record HasTaken (old new : BookPartValue) (number : ℕ) (event : Event) : Type 0 where
+  pub there : slice_get old.book.journal.list number ≡ Some event
+  pub next : number ≡ next_event old
+  pub rest : new ≡ record old { taken = number + 1 }
+
+-- no event is there to be taken out, and nothing has changed
+pub record HasTakenNone (old new : BookPartValue) : Type 0 where
+  pub none : length old.book.journal.list ≤ next_event old
+  pub same : new ≡ old
+
+-- what comes of taking the next event out
+pub record IsTakenOut (old new : BookPartValue) (came : Option Taken) : Type 0 where
+  pub taken : IfSome came (λ t. HasTaken old new t.number t.event)
+  pub none : IfNone came (HasTakenNone old new)
 
 -- a call is lent a part, and the book's: it is done, or refused, and then nothing has changed
 pub record ComesOfTwo {T A : Type 0} (home_of : A → Home) (Done : T → Type 0) (reason : HostError → Type 0) (Rest : BookPartValue → BookPartValue → Type 0) (old new : A) (old_b b : BookPartValue) (came : Result T PartError) : Type 0 where

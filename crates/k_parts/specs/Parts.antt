@@ -52,12 +52,14 @@ pub record SharedPartValue : Type 0 where
   pub heap : SharedRecord
   pub home : Home
 
--- the book, and the names of what the last collection freed, for so many of which there is room
+-- the book, the names of what the last collection freed, for so many of which there is room, and how many of the first events were taken
+-- out or passed over
 pub record BookPartValue : Type 0 where
   pub book : BookRecord
   pub home : Home
   pub freed : List Name
   pub room : ℕ
+  pub taken : ℕ
 
 -- what is seen of the parts: their host is that of their head and of their table
 abbrev pub guest_seen : Head → Guest → GuestPartValue
@@ -69,8 +71,8 @@ kernel_seen head k = record { home = home_at head k.note.table; kernel = k }
 abbrev pub shared_seen : Head → SharedRecord → SharedPartValue
 shared_seen head s = record { home = home_at head s.note.table; heap = s }
 
-abbrev pub book_seen : Head → BookRecord → FreedNames → BookPartValue
-book_seen head b n = record { home = home_at head b.journal.table; book = b; freed = n.names; room = n.room }
+abbrev pub book_seen : Head → BookRecord → FreedNames → ℕ → BookPartValue
+book_seen head b n taken = record { home = home_at head b.journal.table; book = b; freed = n.names; room = n.room; taken = taken }
 
 -- the process serves, and one event more of it can be unpublished
 pub record GuestServesApart (basis : Basis) (table : TableId) (g : Guest) : Type 0 where

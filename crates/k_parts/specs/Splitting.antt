@@ -30,9 +30,9 @@ guest_in home g = record { home = home; guest = g }
 abbrev pub heap_in : Home → SharedRecord → SharedPartValue
 heap_in home s = record { home = home; heap = s }
 
--- the parts are those of the host, each by itself, and there is no name yet of what was freed
+-- the parts are those of the host, each by itself, there is no name yet of what was freed, and no event was taken out
 pub record AreSplit (h : HostValue) (number most_freed : ℕ) (guests : List GuestPartValue) (kernel : KernelPartValue) (shared : List SharedPartValue) (book : BookPartValue) : Type 0 where
   pub guests_are : guests ≡ map (guest_in (home_of h number)) h.guests
   pub kernel_is : kernel ≡ record { home = home_of h number; kernel = h.kernel }
   pub heaps_are : shared ≡ map (heap_in (home_of h number)) h.shared
-  pub book_is : book ≡ record { home = home_of h number; book = h.book; freed = []; room = most_freed }
+  pub book_is : book ≡ record { home = home_of h number; book = h.book; freed = []; room = most_freed; taken = 0 }

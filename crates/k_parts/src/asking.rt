@@ -1,4 +1,4 @@
-//! What a part tells. No question changes anything.
+//! What a part tells, and the events that are taken out of the book's. No question changes anything.
 ghost use Rattle.std.specs.Prelude.{◌≡◌, ◌<◌, ◌≤◌, option_map, length, IfNone, IfSome, None, OnSome};
 ghost use Rattle.k_types.specs.Limits.{max_of};
 ghost use Rattle.k_types.specs.Owners.{object_bytes};
@@ -7,10 +7,14 @@ ghost use Rattle.k_limits.specs.Limits.{use_at};
 ghost use Rattle.k_book.specs.Books.{book_limits};
 ghost use Rattle.k_shares.specs.Sharers.{heap_number, lowest_orphan};
 ghost use Rattle.k_host.specs.Asked.{done_by, has_ended_of, heap_bytes_of, held_by};
-ghost use Rattle.k_parts.specs.Told.{event_in};
+ghost use Rattle.k_parts.specs.Calls.{IsTakenOut};
+ghost use Rattle.k_parts.specs.Parts.{CanMeet};
+ghost use Rattle.k_parts.specs.Told.{charge_in, event_in};
 
+use crate::errors::PartError;
 use crate::names::HostName;
-use crate::parts::{BookPart, GuestPart, KernelPart, SharedPart};
+use crate::parts::{BookPart, GuestPart, KernelPart, SharedPart, are_one};
+use k_host::{Taken, charge_by, next_from};
 use k_types::{Event, LimitId, Name, REGISTERS, Reg, SharedId};
 
 impl<H: HostName> GuestPart<H> {
@@ -54,6 +58,22 @@ impl<H: HostName> GuestPart<H> {
         ensures { result ≡ self.now.guest.bodies }
     {
         self.guest.bodies
+    }
+
+    /// What the process is charged: the bytes of its heap and of each heap that it shares, and nothing once it has ended. It looks at each
+    /// shared heap.
+    ///
+    /// # Errors
+    ///
+    /// `Mixed` exactly where the parts are not of one host.
+    pub fn charge(&self, book: &BookPart<H>) -> Result<u64, PartError>
+        requires { CanMeet H.home self.now.home book.now.home }
+        ensures { result ≡ charge_in self.now book.now }
+    {
+        if !are_one(&self.head, &book.head) {
+            return Err(PartError::Mixed);
+        }
+        Ok(charge_by(&self.head.terms, &self.guest, &book.book))
     }
 }
 
@@ -110,6 +130,17 @@ impl<H: HostName> BookPart<H> {
             return None;
         }
         Some(*self.book.event(number))
+    }
+
+    /// Takes the next event out of the journal: the first that was not taken out yet and is still among those that are kept; `None` where
+    /// there is none. So each event is taken out at most once, and in order, and its number tells how many were missed before it. Constant
+    /// time.
+    pub fn take(&mut self) -> Option<Taken>
+        ensures { IsTakenOut self.old self.new result }
+    {
+        let taken = next_from(&self.book, self.head.terms.rooms.kept, self.taken)?;
+        self.taken = taken.number + 1;
+        Some(taken)
     }
 
     /// The shared heap of the lowest number that was made, isn't absorbed and has no sharer. The cost is in proportion to the shares.

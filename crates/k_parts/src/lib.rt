@@ -7,7 +7,7 @@
 //! [`GuestPart::inside`] does an operation inside a process's heap, with that part alone. The other calls are lent the parts that the event
 //! touches. Which these are depends on what the process and the book show: [`GuestPart::operate`] is lent these two, and does the operation
 //! or tells which other part it needs. The lock of that part comes before the book's, which is given back in between: so each call asks
-//! again. Parts of two hosts are told apart by the numbers of their hosts, or by their types ([`HostName`]).
+//! again. [`GuestPart::charge`] tells what a process is charged, and is lent the book too. Parts of two hosts are told apart by the numbers of their hosts, or by their types ([`HostName`]).
 #![tactic(auto)]
 
 mod asking;
@@ -25,7 +25,7 @@ mod splitting;
 pub use errors::PartError;
 pub use head::Head;
 pub use k_ends::{Came, HostError, Reach, Terms};
-pub use k_host::{Host, OpenError};
+pub use k_host::{Host, OpenError, Taken};
 pub use k_io::NoMemory;
 pub use laws::parts_are_one_host;
 pub use names::{AnyHost, HostName};

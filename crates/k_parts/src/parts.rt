@@ -75,12 +75,14 @@ impl<H: HostName> Model for SharedPart<H> {
     ghost invariant = { λ p. SharedRests H.home (home_at (arc_value p.head) p.heap.note.table) p.heap };
 }
 
-/// The book of a host, which stands between the heaps and has the journal, with the names of the objects that the last collection freed.
+/// The book of a host, which stands between the heaps and has the journal, with the names of the objects that the last collection freed. It
+/// also counts the events that were taken out of the journal.
 #[derive(Drop)]
 pub struct BookPart<H: HostName> {
     pub(crate) head: Arc<Head, Global>,
     pub(crate) book: Book,
     pub(crate) freed: Freed,
+    pub(crate) taken: u64,
     of: PhantomData<H>,
 }
 
@@ -90,7 +92,7 @@ impl<H: HostName> Model for BookPart<H> {
 
     ghost Value = { BookPartValue };
 
-    ghost view = { λ p. book_seen (arc_value p.head) p.book p.freed };
+    ghost view = { λ p. book_seen (arc_value p.head) p.book p.freed p.taken };
 
     ghost invariant = { λ p. BookRests H.home (home_at (arc_value p.head) p.book.journal.table) p.book };
 }
@@ -197,19 +199,20 @@ impl<H: HostName> BookPart<H> {
         let _book = &self.book;
     }
 
-    /// The part of a book that rests, with this list for the names of what is freed.
+    /// The part of a book that rests, with this list for the names of what is freed, before an event was taken out.
     pub(crate) fn of(
         head: &Arc<Head, Global>,
         book: Book,
         freed: Freed,
     ) -> Result<BookPart<H>, NoMemory>
         requires { BookRests H.home (home_at (arc_value head.now) book.journal.table) book }
-        ensures { IfOk result (λ p. p ≡ book_seen (arc_value head.now) book freed) }
+        ensures { IfOk result (λ p. p ≡ book_seen (arc_value head.now) book freed 0) }
     {
         Ok(BookPart {
             head: Arc::try_clone(head)?,
             book,
             freed,
+            taken: 0,
             of: PhantomData,
         })
     }

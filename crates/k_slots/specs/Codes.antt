@@ -4,7 +4,7 @@ use Rattle.std.specs.Bool.{⊤}
 use Rattle.k_types.specs.declared.event.Event.{Event}
 use Rattle.k_types.specs.declared.event.Reply.{Reply}
 use Rattle.k_embed.specs.declared.messages.Answer.{Answer}
-use Rattle.k_embed.specs.Codes.{of_error, of_event, of_reply, plain}
+use Rattle.k_embed.specs.Codes.{of_error, of_event, of_number, of_reply, plain}
 use Rattle.k_parts.specs.Came.{Came}
 use Rattle.k_parts.specs.Came.TheVariants.{Did, Needs}
 use Rattle.k_parts.specs.HostError.{HostError}
@@ -51,6 +51,11 @@ of_operated (Err why) = of_part_error why
 abbrev pub of_tried : Result (Option Reply) HostError → Answer
 of_tried (Ok answer) = of_inside answer
 of_tried (Err why) = of_error why
+
+-- what a process is charged
+abbrev pub of_charge : Result ℕ PartError → Answer
+of_charge (Ok bytes) = of_number bytes
+of_charge (Err why) = of_part_error why
 
 -- what came of a call that has an event
 abbrev pub of_happened : Result Event PartError → Answer

@@ -6,21 +6,21 @@ use Rattle.k_types.specs.Owners.{object_bytes}
 use Rattle.k_types.specs.Totals.{total}
 use Rattle.k_embed.specs.declared.messages.Answer.{Answer}
 use Rattle.k_embed.specs.declared.messages.Request.{Request}
-use Rattle.k_embed.specs.Asked.{operation_of}
+use Rattle.k_embed.specs.Asked.{is_take, operation_of}
 use Rattle.k_embed.specs.Books.{book_limits}
 use Rattle.k_embed.specs.Codes.{of_event, of_found, of_held, of_listed, of_no_host, of_number, of_told, plain}
-use Rattle.k_embed.specs.Events.{asked_of, of_seen}
+use Rattle.k_embed.specs.Events.{asked_of, of_seen, of_taken}
 use Rattle.k_embed.specs.Limits.{use_at}
 use Rattle.k_embed.specs.Served.{lives_of}
 use Rattle.k_embed.specs.Sharers.{lowest_orphan}
 use Rattle.k_parts.specs.Asked.{done_by, heap_bytes_of, held_by}
-use Rattle.k_parts.specs.Calls.{AreNamesKept, IsAbsorbed, IsCollected, IsCollectedKernel, IsExited, IsKilled, IsOperated, IsOperatedWithKernel, IsOperatedWithShared, IsPublished, IsTriedInside}
+use Rattle.k_parts.specs.Calls.{AreNamesKept, IsAbsorbed, IsCollected, IsCollectedKernel, IsExited, IsKilled, IsOperated, IsOperatedWithKernel, IsOperatedWithShared, IsPublished, IsTakenOut, IsTriedInside}
 use Rattle.k_parts.specs.Parts.{BookPartValue, GuestPartValue, KernelPartValue, SharedPartValue}
-use Rattle.k_parts.specs.Told.{event_in}
+use Rattle.k_parts.specs.Told.{charge_in, event_in}
 use Rattle.k_slots.specs.declared.slots.Part.{Part}
 use Rattle.k_slots.specs.declared.slots.Part.TheVariants.{Book, Empty, Guest, Kernel, Lacking, Row as InRow, Shared}
 use Rattle.k_slots.specs.declared.slots.PartSlot.{PartSlot}
-use Rattle.k_slots.specs.Codes.{of_done, of_happened, of_mixed, of_operated, of_tried}
+use Rattle.k_slots.specs.Codes.{of_charge, of_done, of_happened, of_mixed, of_operated, of_tried}
 use Rattle.k_slots.specs.Lending.{book_of, guest_of, kernel_of, shared_of}
 
 -- the answer is that of what came of the call
@@ -71,6 +71,10 @@ told_of_book p q =
     else if q.call == 47 then Some (of_seen of_event (event_in p q.number))
     else None
 
+-- a process's part and the book's: what the process is charged
+abbrev pub told_of_both : GuestPartValue → BookPartValue → Request → Option Answer
+told_of_both p b q = if q.call == 34 then Some (of_charge (charge_in p b)) else None
+
 -- a process's part: an operation is done inside its heap, or a question is answered
 abbrev pub IsServedGuest : GuestPartValue → GuestPartValue → Request → Answer → Type 0
 IsServedGuest old new q answer =
@@ -82,23 +86,27 @@ pub record IsThere {A : Type 0} (at_place : A → Part) (place : Part) (Holds : 
   pub there : place ≡ at_place now
   pub holds : Holds now
 
+-- where it was asked for that is what was done, and else the other
+pub record IsEither (asked : Bool) (Done Else : Type 0) : Type 0 where
+  pub done : IsTrue asked → Done
+  pub other : IsFalse asked → Else
+
+-- the book's part: the next event is taken out, and the answer is its number; or a question is answered
+abbrev pub IsServedBook : BookPartValue → BookPartValue → Request → Answer → Type 0
+IsServedBook old new q answer = IsEither (is_take q) (IsShown of_taken (IsTakenOut old new) answer) (IsAnswered (of_told (told_of_book old q)) old new answer)
+
 -- what lies in the place is lent alone. Each part answers its questions; where there is none, the line and the reason are the answer
 abbrev pub IsServedAlone : Part → Part → Request → Answer → Type 0
 IsServedAlone (Guest p) new q answer = IsThere Guest new (λ now. IsServedGuest p now q answer)
 IsServedAlone (Kernel p) new q answer = IsAnswered (of_told (told_of_kernel p q)) (Kernel p) new answer
 IsServedAlone (Shared p) new q answer = IsAnswered (of_told (told_of_shared p q)) (Shared p) new answer
-IsServedAlone (Book p) new q answer = IsAnswered (of_told (told_of_book p q)) (Book p) new answer
+IsServedAlone (Book p) new q answer = IsThere Book new (λ now. IsServedBook p now q answer)
 IsServedAlone (Lacking line reason) new q answer = IsAnswered (of_no_host line reason) (Lacking line reason) new answer
 IsServedAlone (InRow row) new q answer = IsAnswered of_mixed (InRow row) new answer
 IsServedAlone Empty new q answer = IsAnswered of_mixed Empty new answer
 
 abbrev pub IsServedByOne : PartSlot → PartSlot → Request → Answer → Type 0
 IsServedByOne old new q answer = IsServedAlone old.part new.part q answer
-
--- where it was asked for that is what was done, and else the other
-pub record IsEither (asked : Bool) (Done Else : Type 0) : Type 0 where
-  pub done : IsTrue asked → Done
-  pub other : IsFalse asked → Else
 
 -- a part of this kind and the book's are in their places, and this holds of them
 pub record AreThere {A : Type 0} (at_place : A → Part) (place place_b : Part) (Holds : A → BookPartValue → Type 0) : Type 0 where
@@ -108,12 +116,12 @@ pub record AreThere {A : Type 0} (at_place : A → Part) (place place_b : Part) 
   pub book_there : place_b ≡ Book book
   pub holds : Holds now book
 
--- a process and the book: an operation, the collection of the process's heap (16), and the publishing of what is unpublished (21)
+-- a process and the book: an operation, the collection of the process's heap (16), the publishing of what is unpublished (21), and a question
 abbrev pub IsServedWithBook : GuestPartValue → GuestPartValue → BookPartValue → BookPartValue → Request → Answer → Type 0
 IsServedWithBook old new old_b b q answer =
     MatchOption (operation_of q) (
     IsEither (q.call == 16) (IsShown of_happened (λ came. IsCollected old new old_b b came × AreNamesKept old.home old_b b came) answer)
-    (IsEither (q.call == 21) (IsShown of_done (IsPublished old new old_b b) answer) (IsAnswered {A = GuestPartValue × BookPartValue} (plain 8 0 0) (old, old_b) (new, b) answer))
+    (IsEither (q.call == 21) (IsShown of_done (IsPublished old new old_b b) answer) (IsAnswered {A = GuestPartValue × BookPartValue} (of_told (told_of_both old old_b q)) (old, old_b) (new, b) answer))
     ) (λ op. IsShown of_operated (IsOperated op old new old_b b) answer)
 
 -- a process's part is in the place beside the book, and the request was served on them; or it is not, and nothing has changed

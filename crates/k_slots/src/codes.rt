@@ -1,8 +1,8 @@
 //! The numbers of what comes of a call over parts.
 ghost use Rattle.std.specs.Prelude.{◌≡◌, ◌==◌};
-ghost use Rattle.k_slots.specs.Codes.{of_came, of_done, of_happened, of_inside, of_mixed, of_needs, of_operated, of_part_error, of_reach, of_tried};
+ghost use Rattle.k_slots.specs.Codes.{of_came, of_charge, of_done, of_happened, of_inside, of_mixed, of_needs, of_operated, of_part_error, of_reach, of_tried};
 
-use k_embed::{Answer, Request, done, happened, lacking, replied};
+use k_embed::{Answer, Request, done, happened, lacking, number, replied};
 use k_operate::Reach;
 use k_parts::{Came, HostError, PartError};
 use k_types::{Event, Reply};
@@ -74,6 +74,16 @@ pub(crate) fn of_operated(came: Result<Came, PartError>) -> Answer
 {
     match came {
         Ok(came) => of_came(came),
+        Err(why) => of_part_error(why),
+    }
+}
+
+/// What a process is charged.
+pub(crate) fn of_charge(came: Result<u64, PartError>) -> Answer
+    ensures { result ≡ of_charge came }
+{
+    match came {
+        Ok(bytes) => number(bytes),
         Err(why) => of_part_error(why),
     }
 }

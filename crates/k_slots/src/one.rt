@@ -4,18 +4,19 @@ ghost use Rattle.k_types.specs.Bounds.{register_count};
 ghost use Rattle.k_types.specs.Limits.{max_of};
 ghost use Rattle.k_embed.specs.Books.{book_limits};
 ghost use Rattle.k_embed.specs.Codes.{of_found, of_told};
+ghost use Rattle.k_embed.specs.Events.{of_taken};
 ghost use Rattle.k_embed.specs.Limits.{use_at};
 ghost use Rattle.k_embed.specs.Sharers.{lowest_orphan};
 ghost use Rattle.k_parts.specs.Asked.{held_by};
-ghost use Rattle.k_parts.specs.Calls.{IsTriedInside};
+ghost use Rattle.k_parts.specs.Calls.{IsTakenOut, IsTriedInside};
 ghost use Rattle.k_slots.specs.Codes.{of_tried};
-ghost use Rattle.k_slots.specs.Serving.{IsServedByOne, IsServedGuest, IsShown, told_of_book, told_of_guest, told_of_kernel, told_of_limit, told_of_shared};
+ghost use Rattle.k_slots.specs.Serving.{IsServedBook, IsServedByOne, IsServedGuest, IsShown, told_of_book, told_of_guest, told_of_kernel, told_of_limit, told_of_shared};
 
-use crate::codes::{mixed, of_tried};
+use crate::codes::{asks, mixed, of_tried};
 use crate::slots::{Part, PartSlot};
 use k_embed::{
-    Answer, Request, lacking_host, no_call, number, of_held, of_listed, of_number, operation,
-    seen_asked, seen_came, unknown,
+    Answer, Request, lacking_host, no_call, number, of_held, of_listed, of_number, of_taken,
+    operation, seen_asked, seen_came, unknown,
 };
 use k_parts::{AnyHost, BookPart, GuestPart, KernelPart, SharedPart};
 use k_types::{LimitId, Name, Op, Reg};
@@ -121,6 +122,24 @@ fn ask_book(book: &BookPart<AnyHost>, request: &Request) -> Answer
     }
 }
 
+/// Takes the next event out, and answers its number.
+fn take(book: &mut BookPart<AnyHost>) -> Answer
+    ensures { IsShown of_taken (IsTakenOut book.old book.new) result }
+{
+    of_taken(book.take())
+}
+
+/// Takes the next event out, or answers a question.
+#[tactic(auto, using(crate::proofs::Asking::done_is, crate::proofs::Asking::other_is))]
+fn serve_book(book: &mut BookPart<AnyHost>, request: &Request) -> Answer
+    ensures { IsServedBook book.old book.new request.now result }
+{
+    if asks(request, 20) {
+        return take(book);
+    }
+    ask_book(book, request)
+}
+
 /// Does the operation inside the process's heap, or answers a question.
 #[inline(always)]
 fn serve_guest(guest: &mut GuestPart<AnyHost>, request: &Request) -> Answer
@@ -140,7 +159,7 @@ pub fn serve_one(one: &mut PartSlot, request: Request) -> Answer
         Part::Guest(guest) => serve_guest(guest, &request),
         Part::Kernel(kernel) => ask_kernel(kernel, &request),
         Part::Shared(heap) => ask_shared(heap, &request),
-        Part::Book(book) => ask_book(book, &request),
+        Part::Book(book) => serve_book(book, &request),
         Part::Lacking { line, reason } => lacking_host(*line, *reason),
         Part::Row(_) | Part::Empty => mixed(),
     }

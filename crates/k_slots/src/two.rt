@@ -1,12 +1,14 @@
 //! What a request does where a process and the book are lent.
-ghost use Rattle.std.specs.Prelude.{Some};
+ghost use Rattle.std.specs.Prelude.{◌≡◌, Some};
+ghost use Rattle.k_embed.specs.Codes.{of_told};
 ghost use Rattle.k_parts.specs.Calls.{AreNamesKept, IsCollected, IsOperated, IsPublished};
 ghost use Rattle.k_parts.specs.Parts.{AreToldApart};
-ghost use Rattle.k_slots.specs.Codes.{of_done, of_happened, of_operated};
+ghost use Rattle.k_parts.specs.Told.{charge_in};
+ghost use Rattle.k_slots.specs.Codes.{of_charge, of_done, of_happened, of_operated};
 ghost use Rattle.k_slots.specs.Lending.{AreApart, CanLendTwo, home_of};
-ghost use Rattle.k_slots.specs.Serving.{IsServedByTwo, IsServedOverBook, IsServedWithBook, IsShown};
+ghost use Rattle.k_slots.specs.Serving.{IsServedByTwo, IsServedOverBook, IsServedWithBook, IsShown, told_of_both};
 
-use crate::codes::{asks, mixed, of_done, of_happened, of_operated};
+use crate::codes::{asks, mixed, of_charge, of_done, of_happened, of_operated};
 use crate::slots::{Part, PartSlot};
 use k_embed::{Answer, Request, no_call, operation};
 use k_parts::{AnyHost, BookPart, GuestPart};
@@ -36,6 +38,25 @@ fn publish(guest: &mut GuestPart<AnyHost>, book: &mut BookPart<AnyHost>) -> Answ
     of_done(guest.publish(book))
 }
 
+/// What the process is charged.
+fn charge(guest: &GuestPart<AnyHost>, book: &BookPart<AnyHost>) -> Answer
+    requires { AreToldApart guest.now.home book.now.home }
+    ensures { result ≡ of_charge (charge_in guest.now book.now) }
+{
+    of_charge(guest.charge(book))
+}
+
+/// The answer of a process's part and the book's to a question.
+fn ask_both(guest: &GuestPart<AnyHost>, book: &BookPart<AnyHost>, request: &Request) -> Answer
+    requires { AreToldApart guest.now.home book.now.home }
+    ensures { result ≡ of_told (told_of_both guest.now book.now request.now) }
+{
+    match request.call {
+        34 => charge(guest, book),
+        _ => no_call(),
+    }
+}
+
 /// Does what the request asks of a process and the book.
 #[tactic(auto, using(crate::proofs::Asking::done_is, crate::proofs::Asking::other_is))]
 fn serve_with_book(
@@ -55,7 +76,7 @@ fn serve_with_book(
     if asks(request, 21) {
         return publish(guest, book);
     }
-    no_call()
+    ask_both(guest, book, request)
 }
 
 /// The same, where a process's part lies in the place.

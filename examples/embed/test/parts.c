@@ -30,16 +30,18 @@ static const char *DECLARED = "kaffe 1\nkernel 4096 2\ntype Node ref ref int\nli
 static kaffe_request of(uint32_t call) { return kaffe_asked(call, 0, 0, 0, 0, 0); }
 static kaffe_request at(uint32_t call, uint32_t at) { return kaffe_asked(call, at, 0, 0, 0, 0); }
 
-static kaffe_parts *opened(uint64_t events) {
+static kaffe_parts *keeping(uint64_t events, uint32_t kept) {
     kaffe_answer why;
     kaffe_rooms rooms = kaffe_rooms_for(100, PROCESSES, HEAPS);
     if (events) rooms.events = events;
-    rooms.kept = events ? 0 : 100;
+    rooms.kept = kept;
     kaffe_parts *p = kaffe_make_parts_with(DECLARED, NODE, 10, &rooms, &why);
     if (p) return p;
     fprintf(stderr, "parts: no host: line %" PRIu32 ", reason %" PRIu32 "\n", why.seg, why.at);
     exit(1);
 }
+
+static kaffe_parts *opened(uint64_t events) { return keeping(events, events ? 0 : 100); }
 
 static kaffe_part *guest(kaffe_parts *p, uint32_t pid) { return kaffe_guest_part(p, pid); }
 static kaffe_part *heap(kaffe_parts *p, uint32_t id) { return kaffe_shared_part(p, id); }
@@ -90,6 +92,8 @@ static void mixed(void) {
     STATUS(kaffe_call_three(guest(p, GUEST), heap(q, ONE), book(p), make), KAFFE_MIXED);
     STATUS(kaffe_call_three(heap(p, ONE), kernel(q), book(p), of(KAFFE_CALL_ABSORB)), KAFFE_MIXED);
     STATUS(kaffe_call_four(guest(p, HOST), guest(q, GUEST), kernel(p), book(p), of(KAFFE_CALL_KILL_BY)), KAFFE_MIXED);
+    STATUS(kaffe_call_two(guest(p, GUEST), book(q), of(KAFFE_ASK_CHARGE)), KAFFE_MIXED);
+    due("a charge by the book of another host", kaffe_part_charge(guest(p, GUEST), book(q)), 0);
     STATUS(kaffe_call_two(book(p), guest(p, GUEST), make), KAFFE_MIXED);
     STATUS(kaffe_call_two(guest(p, GUEST), kernel(p), make), KAFFE_MIXED);
     STATUS(kaffe_call_three(guest(p, GUEST), book(p), kernel(p), make), KAFFE_MIXED);
@@ -108,6 +112,15 @@ static void no_calls(void) {
     STATUS(kaffe_call_one(kernel(p), of(KAFFE_CALL_NEW)), KAFFE_NO_CALL);
     STATUS(kaffe_call_one(heap(p, ONE), of(KAFFE_ASK_EVENTS)), KAFFE_NO_CALL);
     STATUS(kaffe_call_one(book(p), of(KAFFE_ASK_LIVES)), KAFFE_NO_CALL);
+    STATUS(kaffe_call_one(guest(p, GUEST), of(KAFFE_ASK_CHARGE)), KAFFE_NO_CALL);
+    STATUS(kaffe_call_one(book(p), of(KAFFE_ASK_CHARGE)), KAFFE_NO_CALL);
+    STATUS(kaffe_call_one(guest(p, GUEST), of(KAFFE_CALL_TAKE)), KAFFE_NO_CALL);
+    STATUS(kaffe_call_one(kernel(p), of(KAFFE_CALL_TAKE)), KAFFE_NO_CALL);
+    STATUS(kaffe_call_one(heap(p, ONE), of(KAFFE_CALL_TAKE)), KAFFE_NO_CALL);
+    STATUS(kaffe_call_two(guest(p, GUEST), book(p), of(KAFFE_CALL_TAKE)), KAFFE_NO_CALL);
+    STATUS(kaffe_call_two(guest(p, GUEST), book(p), of(KAFFE_ASK_LEFT)), KAFFE_NO_CALL);
+    STATUS(kaffe_call_two(guest(p, GUEST), book(p), of(KAFFE_ASK_LIVES)), KAFFE_NO_CALL);
+    STATUS(kaffe_call_three(guest(p, GUEST), kernel(p), book(p), of(KAFFE_ASK_CHARGE)), KAFFE_NO_CALL);
     STATUS(kaffe_call_two(guest(p, GUEST), book(p), of(KAFFE_CALL_KILL)), KAFFE_NO_CALL);
     STATUS(kaffe_call_three(guest(p, GUEST), kernel(p), book(p), of(KAFFE_CALL_COLLECT)), KAFFE_NO_CALL);
     STATUS(kaffe_call_three(guest(p, GUEST), heap(p, ONE), book(p), of(KAFFE_CALL_COLLECT)), KAFFE_NO_CALL);
@@ -174,6 +187,73 @@ static void wholes(void) {
     kaffe_free_parts(p);
 }
 
+/* What a guest is charged: its own objects and, in full, each shared heap that it shares; nothing once it has ended. */
+static void charges(void) {
+    kaffe_parts *p = opened(0);
+    kaffe_part *one = guest(p, GUEST), *other = guest(p, OTHER);
+    due("the charge at first", kaffe_part_charge(one, book(p)), 0);
+    DONE(kaffe_call_two(one, book(p), at(KAFFE_CALL_NEW, NODE)));
+    due("its object", kaffe_part_charge(one, book(p)), 40);
+    DONE(kaffe_call_two(one, book(p), at(KAFFE_CALL_NEW, NODE)));
+    due("a second one", kaffe_part_charge(one, book(p)), 80);
+    DONE(kaffe_call_three(one, heap(p, TWO), book(p), at(KAFFE_CALL_SHARE, TWO)));
+    DONE(kaffe_call_three(one, heap(p, TWO), book(p), kaffe_asked(KAFFE_CALL_SNEW, TWO, NODE, 1, 0, 0)));
+    due("and one in a shared heap", kaffe_part_charge(one, book(p)), 120);
+    due("who does not share it", kaffe_part_charge(other, book(p)), 0);
+    DONE(kaffe_call_three(one, heap(p, TWO), book(p), kaffe_asked(KAFFE_CALL_FREEZE, TWO, 0, 1, 0, 0)));
+    DONE(kaffe_call_three(other, heap(p, TWO), book(p), kaffe_asked(KAFFE_CALL_ATTACH, TWO, 0, 0, 0, 0)));
+    due("who shares it now", kaffe_part_charge(other, book(p)), 40);
+    due("the use of the limit", kaffe_call_one(book(p), at(KAFFE_ASK_USE, 1)).number, 160);
+    DONE(kaffe_call_two(one, book(p), of(KAFFE_CALL_COLLECT)));
+    due("after a collection", kaffe_part_charge(one, book(p)), 80);
+    DONE(kaffe_call_three(one, kernel(p), book(p), of(KAFFE_CALL_KILL)));
+    due("after its end", kaffe_part_charge(one, book(p)), 0);
+    due("its status", kaffe_call_two(one, book(p), of(KAFFE_ASK_CHARGE)).status, KAFFE_OK);
+    due("the other one", kaffe_part_charge(other, book(p)), 40);
+    kaffe_free_parts(p);
+}
+
+/* The event that is taken out next has this number, and is this call; or there is none. */
+static void next(kaffe_parts *p, int there, uint64_t number, uint32_t call) {
+    kaffe_event event;
+    due("whether an event is taken out", kaffe_part_take_event(book(p), &event), there);
+    if (!there) return;
+    due("the number of what is taken out", event.number, number);
+    due("what it was asked for", event.asked.call, call);
+}
+
+/* Events are taken out once each and in order; where some were forgotten the next one is the first that is kept. */
+static void takes(void) {
+    kaffe_parts *p = keeping(0, 3);
+    next(p, 0, 0, 0);
+    DONE(kaffe_call_two(guest(p, GUEST), book(p), at(KAFFE_CALL_NEW, NODE)));
+    DONE(kaffe_call_two(guest(p, OTHER), book(p), of(KAFFE_CALL_COLLECT)));
+    next(p, 1, 0, KAFFE_CALL_NEW);
+    next(p, 1, 1, KAFFE_CALL_COLLECT);
+    next(p, 1, 2, KAFFE_EVENT_ENDED);
+    next(p, 0, 0, 0);
+    DONE(kaffe_call_one(guest(p, GUEST), of(KAFFE_CALL_CLEAR)));
+    next(p, 0, 0, 0); /* nothing is published yet */
+    DONE(kaffe_call_two(guest(p, GUEST), book(p), of(KAFFE_CALL_PUBLISH)));
+    next(p, 1, 3, KAFFE_CALL_CLEAR);
+    for (int i = 0; i < 5; i++) DONE(kaffe_call_two(guest(p, GUEST), book(p), at(KAFFE_CALL_NEW, NODE))); /* the events 4 to 8, of which 6 to 8 are kept */
+    next(p, 1, 6, KAFFE_CALL_NEW);
+    kaffe_event event;
+    due("an event that was taken out is kept still", kaffe_part_event_at(book(p), 6, &event), 1);
+    due("one that is forgotten", kaffe_part_event_at(book(p), 5, &event), 0);
+    next(p, 1, 7, KAFFE_CALL_NEW);
+    next(p, 1, 8, KAFFE_CALL_NEW);
+    next(p, 0, 0, 0);
+    kaffe_answer none = kaffe_call_one(book(p), of(KAFFE_CALL_TAKE));
+    due("the status where there is none", none.status, KAFFE_OK);
+    due("what it tells", none.what, KAFFE_NOTHING);
+    kaffe_free_parts(p);
+    p = keeping(0, 0);
+    DONE(kaffe_call_two(guest(p, GUEST), book(p), at(KAFFE_CALL_NEW, NODE)));
+    next(p, 0, 0, 0); /* none is kept */
+    kaffe_free_parts(p);
+}
+
 /* Where the journal is full each call is answered so, an end too: no event is kept. */
 static void full(void) {
     enum { EVENTS = 3 * PROCESSES + HEAPS + 3 };
@@ -192,6 +272,8 @@ int main(void) {
     no_calls();
     needs();
     wholes();
+    charges();
+    takes();
     full();
     return failures != 0;
 }

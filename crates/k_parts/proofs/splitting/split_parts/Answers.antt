@@ -27,6 +27,6 @@ returns g c =
       kernel_is = c.in_ok-of.ensures ∙ kernel_is_seen g.H.HostName.home host c.args.number c.requires.serves c.requires.named head basis number;
       heaps_are = c.in_ok-split_heaps.ensures ∙ heaps_seen g.H.HostName.home host c.args.number c.requires.serves c.requires.named head basis number;
       book_is =
-          c.in_ok-of-2.ensures ∙ ap (λ (n : FreedNames). book_seen head c.args.parts.book n) c.in_ok-freed.ensures
+          c.in_ok-of-2.ensures ∙ ap (λ (n : FreedNames). book_seen head c.args.parts.book n 0) c.in_ok-freed.ensures
           ∙ book_is_seen g.H.HostName.home host c.args.number c.requires.serves c.requires.named head basis number c.args.most_freed;
     }

@@ -1,6 +1,8 @@
 use Rattle.std.proofs.Common.{ap, refl, sym, ◌∙◌}
 use Rattle.std.specs.Arc.{arc_value}
 use Rattle.std.proofs.lemmas.Bool.{false≢true}
+use Rattle.k_mark.specs.Listening.{FreedNames}
+use Rattle.k_book.specs.Books.{BookRecord}
 use Rattle.k_ends.specs.Whole.{AreFreedLast, CanNotCollect, HasCollected}
 use Rattle.k_ends.specs.k_guests.Objects.{objects_after}
 use Rattle.k_parts.specs.Parts.{BookPartValue, book_seen, guest_seen}
@@ -53,7 +55,7 @@ returns-clause-done g c =
       done = done_of_two own book c.try_collect.result c.hosted.ensures (λ basis x b event. HasCollected basis x c.try_collect.new.guest b c.try_collect.new.book event) c.try_collect.ensures.done;
       home = stays own _ now.guest.serves.table;
       rest = book_collected (arc_value c.book.inside.head) c.book.inside.book c.book.inside.freed c.book.view_is c.try_collect.new.book c.try_collect.new.freed c.try_collect.ensures.room (stays book _ now.book.table_is);
-      same = same_two_with c.try_collect.result c.hosted.ensures (guest_seen (arc_value c.self.inside.head)) (book_seen (arc_value c.book.inside.head)) c.try_collect.new.guest c.try_collect.new.book c.try_collect.new.freed c.try_collect.ensures.same c.try_collect.ensures.kept c.self.view_is c.book.view_is;
+      same = same_two_with c.try_collect.result c.hosted.ensures (guest_seen (arc_value c.self.inside.head)) (λ (b : BookRecord) (n : FreedNames). book_seen (arc_value c.book.inside.head) b n c.book.inside.taken) c.try_collect.new.guest c.try_collect.new.book c.try_collect.new.freed c.try_collect.ensures.same c.try_collect.ensures.kept c.self.view_is c.book.view_is;
       why = why_of_two own book c.try_collect.result c.hosted.ensures (λ basis x b e. CanNotCollect basis b x e) (c.are_one.ensures.0 c.if-not-are_one.false) c.try_collect.ensures.why;
     }
 

@@ -1,6 +1,8 @@
 use Rattle.std.proofs.Common.{ap, refl, sym, ◌∙◌}
 use Rattle.std.specs.Arc.{arc_value}
 use Rattle.std.proofs.lemmas.Bool.{false≢true}
+use Rattle.k_mark.specs.Listening.{FreedNames}
+use Rattle.k_book.specs.Books.{BookRecord}
 use Rattle.k_ends.specs.Whole.{AreFreedLast, CanNotCollectKernel, HasCollectedKernel}
 use Rattle.k_ends.specs.k_guests.Objects.{objects_after}
 use Rattle.k_parts.specs.Parts.{BookPartValue, book_seen, guest_seen, kernel_seen}
@@ -73,7 +75,7 @@ returns-clause-done g c =
       home = stays own _ now.0.guest.serves.table;
       other_home = stays kernel _ now.1.table;
       rest = book_collected (arc_value c.book.inside.head) c.book.inside.book c.book.inside.freed c.book.view_is c.try_collect_kernel.new.book c.try_collect_kernel.new.freed c.try_collect_kernel.ensures.room (stays book _ now.0.book.table_is);
-      same = same_three_with c.try_collect_kernel.result c.hosted.ensures (guest_seen (arc_value c.self.inside.head)) (kernel_seen (arc_value c.kernel.inside.head)) (book_seen (arc_value c.book.inside.head)) c.try_collect_kernel.new.guest c.try_collect_kernel.new.kernel c.try_collect_kernel.new.book c.try_collect_kernel.new.freed c.try_collect_kernel.ensures.same c.try_collect_kernel.ensures.kept c.self.view_is c.kernel.view_is c.book.view_is;
+      same = same_three_with c.try_collect_kernel.result c.hosted.ensures (guest_seen (arc_value c.self.inside.head)) (kernel_seen (arc_value c.kernel.inside.head)) (λ (b : BookRecord) (n : FreedNames). book_seen (arc_value c.book.inside.head) b n c.book.inside.taken) c.try_collect_kernel.new.guest c.try_collect_kernel.new.kernel c.try_collect_kernel.new.book c.try_collect_kernel.new.freed c.try_collect_kernel.ensures.same c.try_collect_kernel.ensures.kept c.self.view_is c.kernel.view_is c.book.view_is;
       why = why_of_three own kernel book c.try_collect_kernel.result c.hosted.ensures (λ basis x k b e. CanNotCollectKernel basis k b x e) (c.are_three.ensures.0 c.if-not-are_three.false) c.try_collect_kernel.ensures.why;
     }
 

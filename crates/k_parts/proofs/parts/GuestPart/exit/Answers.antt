@@ -74,6 +74,6 @@ returns g c =
       home = stays own _ now.0.guest.serves.table;
       other_home = stays kernel _ now.1.table;
       rest = book_changed (arc_value c.book.inside.head) c.book.inside.book c.book.inside.freed c.book.view_is c.try_exit.new.book (stays book _ now.0.book.table_is);
-      same = same_three c.try_exit.result c.hosted.ensures (guest_seen (arc_value c.self.inside.head)) (kernel_seen (arc_value c.kernel.inside.head)) (λ (b : BookRecord). book_seen (arc_value c.book.inside.head) b c.book.inside.freed) c.try_exit.new.guest c.try_exit.new.kernel c.try_exit.new.book c.try_exit.ensures.same c.self.view_is c.kernel.view_is c.book.view_is;
+      same = same_three c.try_exit.result c.hosted.ensures (guest_seen (arc_value c.self.inside.head)) (kernel_seen (arc_value c.kernel.inside.head)) (λ (b : BookRecord). book_seen (arc_value c.book.inside.head) b c.book.inside.freed c.book.inside.taken) c.try_exit.new.guest c.try_exit.new.kernel c.try_exit.new.book c.try_exit.ensures.same c.self.view_is c.kernel.view_is c.book.view_is;
       why = why_of_three own kernel book c.try_exit.result c.hosted.ensures (λ basis x k b e. CanNotExit basis k b x e) (c.are_three.ensures.0 c.if-not-are_three.false) c.try_exit.ensures.why;
     }

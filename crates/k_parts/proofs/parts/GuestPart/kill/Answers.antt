@@ -99,6 +99,6 @@ returns g c =
       target_home = stays target _ now.2.serves.table;
       kernel_home = stays kernel _ now.1.table;
       rest = book_changed (arc_value c.book.inside.head) c.book.inside.book c.book.inside.freed c.book.view_is c.try_kill.new.book (stays book _ now.0.book.table_is);
-      same = same_four c.try_kill.result c.hosted.ensures (guest_seen (arc_value c.self.inside.head)) (guest_seen (arc_value c.target.inside.head)) (kernel_seen (arc_value c.kernel.inside.head)) (λ (b : BookRecord). book_seen (arc_value c.book.inside.head) b c.book.inside.freed) c.try_kill.new.guest c.try_kill.new.target c.try_kill.new.kernel c.try_kill.new.book c.try_kill.ensures.same c.self.view_is c.target.view_is c.kernel.view_is c.book.view_is;
+      same = same_four c.try_kill.result c.hosted.ensures (guest_seen (arc_value c.self.inside.head)) (guest_seen (arc_value c.target.inside.head)) (kernel_seen (arc_value c.kernel.inside.head)) (λ (b : BookRecord). book_seen (arc_value c.book.inside.head) b c.book.inside.freed c.book.inside.taken) c.try_kill.new.guest c.try_kill.new.target c.try_kill.new.kernel c.try_kill.new.book c.try_kill.ensures.same c.self.view_is c.target.view_is c.kernel.view_is c.book.view_is;
       why = why_of_four own target kernel book c.try_kill.result c.hosted.ensures (λ basis g t k b e. CanNotKill basis k b (Kill t.cell.pid) t g e) (c.are_four.ensures.0 c.if-not-are_four.false) (subst (λ (p : Pid). IfErr c.try_kill.result (λ e. CanNotKill (basis_of c.deref.result.now.terms) c.kernel.inside.kernel c.book.inside.book (Kill p) c.target.inside.guest c.self.inside.guest e)) c.pid.ensures c.try_kill.ensures.why);
     }

@@ -78,6 +78,6 @@ returns g c =
       home = stays own _ now.0.guest.serves.table;
       other_home = stays shared _ now.1.table;
       rest = book_changed (arc_value c.book.inside.head) c.book.inside.book c.book.inside.freed c.book.view_is c.try_with_shared.new.book (stays book _ now.0.book.table_is);
-      same = same_three c.try_with_shared.result c.hosted.ensures (guest_seen (arc_value c.self.inside.head)) (shared_seen (arc_value c.shared.inside.head)) (λ (b : BookRecord). book_seen (arc_value c.book.inside.head) b c.book.inside.freed) c.try_with_shared.new.guest c.try_with_shared.new.shared c.try_with_shared.new.book c.try_with_shared.ensures.same c.self.view_is c.shared.view_is c.book.view_is;
+      same = same_three c.try_with_shared.result c.hosted.ensures (guest_seen (arc_value c.self.inside.head)) (shared_seen (arc_value c.shared.inside.head)) (λ (b : BookRecord). book_seen (arc_value c.book.inside.head) b c.book.inside.freed c.book.inside.taken) c.try_with_shared.new.guest c.try_with_shared.new.shared c.try_with_shared.new.book c.try_with_shared.ensures.same c.self.view_is c.shared.view_is c.book.view_is;
       why = why_of_three own shared book c.try_with_shared.result c.hosted.ensures (λ basis x s b e. CanNotDoWithShared basis s b c.args.op.now x e) (c.are_three.ensures.0 c.if-not-are_three.false) c.try_with_shared.ensures.why;
     }

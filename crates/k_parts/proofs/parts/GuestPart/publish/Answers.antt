@@ -54,6 +54,6 @@ returns g c =
       done = done_of_two own book c.try_publish.result c.hosted.ensures (λ basis x b _. HasPublishedAll basis x c.try_publish.new.guest b c.try_publish.new.book) c.try_publish.ensures.done;
       home = stays own _ now.guest.serves.table;
       rest = book_changed (arc_value c.book.inside.head) c.book.inside.book c.book.inside.freed c.book.view_is c.try_publish.new.book (stays book _ now.book.table_is);
-      same = same_two c.try_publish.result c.hosted.ensures (guest_seen (arc_value c.self.inside.head)) (λ (b : BookRecord). book_seen (arc_value c.book.inside.head) b c.book.inside.freed) c.try_publish.new.guest c.try_publish.new.book c.try_publish.ensures.same c.self.view_is c.book.view_is;
+      same = same_two c.try_publish.result c.hosted.ensures (guest_seen (arc_value c.self.inside.head)) (λ (b : BookRecord). book_seen (arc_value c.book.inside.head) b c.book.inside.freed c.book.inside.taken) c.try_publish.new.guest c.try_publish.new.book c.try_publish.ensures.same c.self.view_is c.book.view_is;
       why = why_of_two own book c.try_publish.result c.hosted.ensures (λ basis x b e. CanNotPublish basis b x e) (c.are_one.ensures.0 c.if-not-are_one.false) c.try_publish.ensures.why;
     }

@@ -74,6 +74,6 @@ returns g c =
       home = stays own _ now.shared.table;
       other_home = stays kernel _ now.kernel.table;
       rest = book_changed (arc_value c.book.inside.head) c.book.inside.book c.book.inside.freed c.book.view_is c.try_absorb.new.book (stays book _ now.book.table_is);
-      same = same_three c.try_absorb.result c.hosted.ensures (shared_seen (arc_value c.self.inside.head)) (kernel_seen (arc_value c.kernel.inside.head)) (λ (b : BookRecord). book_seen (arc_value c.book.inside.head) b c.book.inside.freed) c.try_absorb.new.shared c.try_absorb.new.kernel c.try_absorb.new.book c.try_absorb.ensures.same c.self.view_is c.kernel.view_is c.book.view_is;
+      same = same_three c.try_absorb.result c.hosted.ensures (shared_seen (arc_value c.self.inside.head)) (kernel_seen (arc_value c.kernel.inside.head)) (λ (b : BookRecord). book_seen (arc_value c.book.inside.head) b c.book.inside.freed c.book.inside.taken) c.try_absorb.new.shared c.try_absorb.new.kernel c.try_absorb.new.book c.try_absorb.ensures.same c.self.view_is c.kernel.view_is c.book.view_is;
       why = why_of_three own kernel book c.try_absorb.result c.hosted.ensures (λ basis t k b e. CanNotAbsorb basis k b t.id e) (c.are_three.ensures.0 c.if-not-are_three.false) c.try_absorb.ensures.why;
     }
