@@ -4,8 +4,8 @@
    is a guest, with a heap and 16 registers, which are its roots. docs/EMBEDDING.md says what a caller owes and what each code means.
 
    Every call answers, and none aborts. A call whose status is not KAFFE_OK has changed nothing.
-   After kaffe_open an allocation and kaffe_print alone take memory, an allocation none where the supply of its process has a body of the type.
-   What a host takes at its opening goes with its rooms, and not with how long it runs. */
+   After kaffe_open an allocation, kaffe_print and kaffe_grow alone take memory, an allocation none where the supply of its process has a body of
+   the type. What a host takes at its opening goes with its rooms, and not with how long it runs. */
 #ifndef KAFFE_H
 #define KAFFE_H
 #include <stddef.h>
@@ -28,7 +28,8 @@ enum kaffe_status {
     KAFFE_ENDED = 3,    /* the process has ended */
     KAFFE_PHASE = 4,    /* a collection of a heap that is touched is open, or of a host that is to be printed: these functions leave none open */
     KAFFE_FULL = 5,     /* the journal has no room for the event, or the process has done 2^64 - 1 operations */
-    KAFFE_NO_MEMORY = 6, /* memory is wanting for the object, and the supply of the process has no body of its type; or for printing */
+    KAFFE_NO_MEMORY = 6, /* memory is wanting for the object, and the supply of the process has no body of its type; or for printing, or for
+                            larger rooms */
     KAFFE_ORPHAN = 7,   /* the shared heap to be absorbed is not the first orphan */
     KAFFE_NO_CALL = 8,  /* the request names no call */
     KAFFE_NO_HOST = 9,  /* no host could be made: see kaffe_make */
@@ -38,7 +39,8 @@ enum kaffe_status {
     KAFFE_FORGOTTEN = 13, /* the host is not printed: fewer events are kept than there are */
     KAFFE_TOO_MANY = 14, /* the host is not printed: there are more operations than a trace has, 200,000 */
     KAFFE_TOO_LONG = 15, /* the host is not printed: a check reads no texts so long, 16,777,216 bytes of a trace and 67,108,864 of both */
-    KAFFE_OVER = 16      /* the host is not printed: every process has ended */
+    KAFFE_OVER = 16,     /* the host is not printed: every process has ended */
+    KAFFE_ROOMS = 19     /* the rooms are less than those that the host has, or not fit: see kaffe_grow. 17 and 18 are those of kaffe_parts.h */
 };
 
 /* Why an operation is refused. It counts as done, and has changed no heap, register or charge. */
@@ -144,7 +146,7 @@ enum kaffe_text {
     KAFFE_REPORT = 1
 };
 
-/* For how much a host has room. The opening takes memory for all of it, and no call takes any for a table after it. */
+/* For how much a host has room. The opening takes memory for all of it, and no call but kaffe_grow takes any for a table after it. */
 typedef struct kaffe_rooms { /* 32 bytes, passed by value */
     uint64_t events;         /* events in the host's whole life: below 2^55, and at least three for each process, one for each shared heap
                                 and three */
@@ -163,14 +165,21 @@ typedef struct kaffe_name {
     uint32_t seg, serial;
 } kaffe_name;
 
-/* The six functions that are linked. The caller gives kaffe_size() bytes, aligned as malloc aligns, and has them back after kaffe_close.
+/* The seven functions that are linked. The caller gives kaffe_size() bytes, aligned as malloc aligns, and has them back after kaffe_close.
    kaffe_open always leaves something to be closed: a host, or a place without one, whose every call answers KAFFE_NO_HOST. kaffe_read copies
    bytes of a text that kaffe_print made, enum kaffe_text, from that place on: as many as there are and as the array has room for, and answers
-   how many. It answers 0 where there is no text or no byte from there on. The pointer may not be NULL, also for a length of 0. */
+   how many. It answers 0 where there is no text or no byte from there on. The pointer may not be NULL, also for a length of 0.
+
+   kaffe_grow gives the host these rooms from now on, and answers how many of the last events can be read: `kept`, while no event is forgotten.
+   Else it answers how many are still there, and holds more of those to come, so that the same call later answers more. Each room is to be no less
+   than before, all of them fit for kaffe_open, and kernel_exits more by as many as exits for each process, ended ones too; else the status is
+   KAFFE_ROOMS. It takes memory for each table that grows beside the old one; where that is wanting the status is KAFFE_NO_MEMORY. Then the rooms
+   are those before, and nothing has changed. */
 size_t kaffe_size(void);
 kaffe_rooms kaffe_rooms_for(uint32_t objects, uint32_t processes, uint32_t heaps);
 void kaffe_open(const uint8_t *text, size_t length, uint32_t type, uint32_t bodies, kaffe_rooms rooms, kaffe_host *at);
 kaffe_answer kaffe_call(kaffe_host *host, kaffe_request request);
+kaffe_answer kaffe_grow(kaffe_host *host, kaffe_rooms rooms);
 size_t kaffe_read(kaffe_host *host, uint32_t text, size_t from, uint8_t *into, size_t length);
 void kaffe_close(kaffe_host *host);
 

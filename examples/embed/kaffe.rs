@@ -35,8 +35,8 @@ struct Request {
     number: u64,
 }
 
-/// For how much a host has room, as `kaffe_rooms` of `kaffe.h`. The opening takes memory for all of it, and no call takes any for a table
-/// after it.
+/// For how much a host has room, as `kaffe_rooms` of `kaffe.h`. The opening takes memory for all of it, and no call but [`Host::grow`] takes
+/// any for a table after it.
 #[repr(C)]
 #[derive(Clone, Copy, Debug, PartialEq, Eq)]
 pub struct Rooms {
@@ -72,6 +72,7 @@ unsafe extern "C" {
     fn kaffe_rooms_for(objects: u32, processes: u32, heaps: u32) -> Rooms;
     fn kaffe_open(text: *const u8, length: usize, ty: u32, bodies: u32, rooms: Rooms, at: *mut Opaque);
     fn kaffe_call(host: *mut Opaque, request: Request) -> Answer;
+    fn kaffe_grow(host: *mut Opaque, rooms: Rooms) -> Answer;
     fn kaffe_read(host: *mut Opaque, text: u32, from: usize, into: *mut u8, length: usize) -> usize;
     fn kaffe_close(host: *mut Opaque);
 }
@@ -140,7 +141,7 @@ impl Host {
     }
 
     /// A host of what the text declares, with these rooms. Each process has a supply of `bodies` bodies of the type: as many allocations of
-    /// it, refused ones too, take no memory, and no call but an allocation and [`Host::print`] takes any.
+    /// it, refused ones too, take no memory, and no call but an allocation, [`Host::print`] and [`Host::grow`] takes any.
     pub fn open_with(text: &str, ty: TypeId, bodies: u32, rooms: Rooms) -> Result<Host, OpenError> {
         // SAFETY: `kaffe_size` asks nothing.
         let size = unsafe { kaffe_size() };
@@ -161,6 +162,16 @@ impl Host {
     fn send(&mut self, request: Request) -> Answer {
         // SAFETY: in the room is what `kaffe_open` left, which `drop` alone closes; `&mut self` keeps calls apart.
         unsafe { kaffe_call(self.0.as_mut_ptr().cast(), request) }
+    }
+
+    /// Has these rooms from now on, and answers how many of the last events can be read: `kept`, while no event is forgotten. Else it answers
+    /// how many are still there, and holds more of those to come, so that the same call later answers more. `Rooms` where a room is less
+    /// than before, they are not fit for an opening, or `kernel_exits` is not more by as many as `exits` for each process, ended ones too;
+    /// `NoMemory` where memory is wanting for the tables that grow beside the old ones. Then nothing has changed.
+    pub fn grow(&mut self, rooms: Rooms) -> Result<u32, Lack> {
+        // SAFETY: as of `send`.
+        let answer = unsafe { kaffe_grow(self.0.as_mut_ptr().cast(), rooms) };
+        if answer.status == 0 { Ok(answer.number as u32) } else { Err(lack_of(answer.status)) }
     }
 
     fn call(&mut self, request: Request) -> Result<Answer, Refusal> {

@@ -77,7 +77,7 @@ pub enum Lack {
     Phase,
     /// The journal has no room for the event, or the process has done 2^64 - 1 operations.
     Full,
-    /// Memory is wanting for the object, and the supply of the process has no body of its type; or for printing.
+    /// Memory is wanting for the object, and the supply of the process has no body of its type; or for printing, or for larger rooms.
     NoMemory,
     /// The shared heap to be absorbed is not the first orphan.
     Orphan,
@@ -95,6 +95,8 @@ pub enum Lack {
     TooLong,
     /// The host is not printed: every process has ended.
     Over,
+    /// The rooms are less than those that the host has, or not fit.
+    Rooms,
     /// The library is of another version than this module: it has no such call, or answers a number that this module has not.
     NoCall,
 }
@@ -186,6 +188,7 @@ pub(super) fn lack_of(status: u32) -> Lack {
         14 => Lack::TooMany,
         15 => Lack::TooLong,
         16 => Lack::Over,
+        19 => Lack::Rooms,
         _ => Lack::NoCall,
     }
 }

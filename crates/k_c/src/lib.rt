@@ -1,4 +1,4 @@
-//! A host for C: six functions over `k_embed`, which `kaffe.h` declares. C gives the memory for a host, and has it back. The parts of a host
+//! A host for C: seven functions over `k_embed`, which `kaffe.h` declares. C gives the memory for a host, and has it back. The parts of a host
 //! have functions of their own.
 #![tactic(auto)]
 
@@ -10,9 +10,10 @@ ghost use Rattle.std.specs.Ptr.{lies_at, room_at};
 ghost use Rattle.k_embed.specs.contracts.serving.Slot.{the_row};
 ghost use Rattle.k_embed.specs.declared.serving.Slot.{Slot};
 ghost use Rattle.k_embed.specs.Asked.{AreRoomsFor};
+ghost use Rattle.k_embed.specs.Growing.{IsGrownIn};
 ghost use Rattle.k_embed.specs.Served.{IsOpened, IsRead, IsServed};
 
-use k_embed::{Answer, Request, Rooms, Slot, opened, read, rooms_for, serve};
+use k_embed::{Answer, Request, Rooms, Slot, grow, opened, read, rooms_for, serve};
 pub use parts::{
     KaffePart, kaffe_call_four, kaffe_call_one, kaffe_call_three, kaffe_call_two, kaffe_part_close,
     kaffe_part_size, kaffe_part_take, kaffe_split,
@@ -66,6 +67,18 @@ pub unsafe extern "C" fn kaffe_call(at: *mut KaffeHost, request: Request) -> Ans
     serve_at(slot, request)
 }
 
+/// Gives the host these rooms, if they are larger ones and there is memory, and answers how many of the last events can be read now; or why it
+/// has those that it had.
+#[unsafe(no_mangle)]
+pub unsafe extern "C" fn kaffe_grow(at: *mut KaffeHost, rooms: Rooms) -> Answer
+    ghost g: { Slot }
+    requires* { sem 𝓛 (lies_at the_row full_share at g) }
+    ensures* { ∃ₛ (λ (w : Slot). sem 𝓛 (lies_at the_row full_share at w) ∗ ⌜ IsGrownIn g w rooms result ⌝) }
+{
+    let slot: &mut Slot = unsafe { &mut *(at as *mut Slot) };
+    grow_at(slot, rooms)
+}
+
 /// Copies bytes of a text that was printed last, of the trace where `text` is 0 and of the report where it is 1: from that place on as many as
 /// there are and as the array has room for. It answers how many, and changes nothing of the host.
 #[unsafe(no_mangle)]
@@ -99,6 +112,12 @@ fn serve_at(slot: &mut Slot, request: Request) -> Answer
     ensures { IsServed slot.old slot.new request result }
 {
     serve(slot, &request)
+}
+
+fn grow_at(slot: &mut Slot, rooms: Rooms) -> Answer
+    ensures { IsGrownIn slot.old slot.new rooms result }
+{
+    grow(slot, rooms)
 }
 
 fn read_at(slot: &mut Slot, text: u32, from: usize, into: &mut [u8]) -> usize

@@ -3,6 +3,7 @@ pub mod Asked
 pub mod Events
 pub mod Texts
 pub mod Served
+pub mod Growing
 pub use Rattle.k_keeper.specs.Kept
 pub use Rattle.k_keeper.specs.Books
 pub use Rattle.k_keeper.specs.Limits

@@ -6,8 +6,14 @@ ghost use Rattle.k_host.specs.Growing.{HasGrown, IsNotGrown};
 use crate::errors::GrowError;
 use crate::host::Host;
 use k_ends::{Rooms, are_larger, grow_parts};
+use std::alloc::Global;
 
 impl Host {
+    /// What its memory is taken from.
+    pub fn allocator(&self) -> Global {
+        *self.guests.allocator()
+    }
+
     /// Whether the rooms are larger ones, as `are_larger` of `k_guests` says. Constant time.
     pub fn can_grow(&self, rooms: &Rooms) -> bool
         ensures { IsTrue result ↔ AreLarger (length self.now.guests) self.now.basis.rooms rooms.now }
@@ -32,7 +38,7 @@ impl Host {
         if !self.can_grow(&rooms) {
             return Err(GrowError::Rooms);
         }
-        let alloc = *self.guests.allocator();
+        let alloc = self.allocator();
         let kept = grow_parts(
             alloc,
             &self.terms,

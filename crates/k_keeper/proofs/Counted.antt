@@ -41,7 +41,7 @@ use Rattle.k_keeper.specs.Kept.{HaveAbsorbed}
 use Rattle.k_keeper.proofs.Refused.{operated_basis}
 
 -- what an event makes and frees comes to and goes from what there was
-abbrev Counts : HostValue → HostValue → Event → Type 0
+abbrev pub Counts : HostValue → HostValue → Event → Type 0
 Counts h n event = objects_in n + gone_by event ≡ objects_in h + made_by event
 
 local_asks_none : (part : CellPart) (p : ℕ) (op : Op) → is_local_in part p op ≡ true → is_allocation op ≡ false
@@ -52,14 +52,14 @@ local_asks_none part p (SNew r s ty) l = absurd (false≢true l)
 local_asks_none part p _ l = refl
 
 -- the end of a collection makes nothing
-end_makes_none : (heap : Heap) (event : Event) → IsTheEnd heap (event ∷ []) → made_by event ≡ 0
+pub end_makes_none : (heap : Heap) (event : Event) → IsTheEnd heap (event ∷ []) → made_by event ≡ 0
 end_makes_none heap event one = let is : event ≡ Ended heap one.objects one.bytes one.exits one.shares = (cc one.is) in ap made_by is
 
 module _ (trace : Trace) where
   last_possible : (xs : List Event) (event : Event) → IsLegalHistory trace (xs ++ event ∷ []) → IsPossible trace (state_after trace xs) event
   last_possible xs event legal = (legal_rest trace (opening trace) xs (event ∷ []) legal).0
 
-  one_more : (xs : List Event) (event : Event) → IsLegalHistory trace (xs ++ event ∷ []) → objects_after trace (xs ++ event ∷ []) + gone_by event ≡ objects_after trace xs + made_by event
+  pub one_more : (xs : List Event) (event : Event) → IsLegalHistory trace (xs ++ event ∷ []) → objects_after trace (xs ++ event ∷ []) + gone_by event ≡ objects_after trace xs + made_by event
   one_more xs event legal = appended_counts trace xs event (last_possible xs event legal)
 
   -- behind what a process publishes
@@ -105,12 +105,12 @@ module _ (h n : HostValue) (serves : HostServes h) (serves_then : HostServes n) 
       counts_by ((h.book.journal.list ++ c.before.cell.value.tail) ++ event ∷ []) event c.way.goes_on.appended.journal
       (behind_tail h.basis.trace h.book.journal.list c.before.cell.pid c.before.cell.note c.before.cell.value event (agrees_of pid.0 c.before c.there) (subst (IsLegalHistory h.basis.trace) c.way.goes_on.appended.journal legal))
 
-  collected_counts : (pid : Pid) (event : Event) → HasCollectedIn h n pid event → Counts h n event
+  pub collected_counts : (pid : Pid) (event : Event) → HasCollectedIn h n pid event → Counts h n event
   collected_counts pid event c =
       counts_by _ event c.way.journal
       (behind_one h.basis.trace h.book.journal.list c.before.cell.pid c.before.cell.note c.before.cell.value _ event refl refl (agrees_of pid.0 c.before c.there) (subst (IsLegalHistory h.basis.trace) c.way.journal legal))
 
-  kernel_counts : (pid : Pid) (event : Event) → HasCollectedKernelIn h n pid event → Counts h n event
+  pub kernel_counts : (pid : Pid) (event : Event) → HasCollectedKernelIn h n pid event → Counts h n event
   kernel_counts pid event c =
       counts_by _ event c.way.journal
       (behind_one h.basis.trace h.book.journal.list c.before.cell.pid c.before.cell.note c.before.cell.value _ event refl refl (agrees_of pid.0 c.before c.there) (subst (IsLegalHistory h.basis.trace) c.way.journal legal))

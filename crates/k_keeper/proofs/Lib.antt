@@ -5,5 +5,7 @@ pub mod Kept
 pub mod Refused
 pub mod Absorbed
 pub mod Counted
+pub mod Listed
+pub mod Grown
 pub mod Opened
 pub mod Published

@@ -1,5 +1,5 @@
 -- A keeper is opened over a host in which nothing has happened.
-use Rattle.std.proofs.Common.{◌≡◌, ◌≤◌, ◌+◌, ◌-◌, ◌*◌, ◌^◌, ◌↔◌, ℕ, Bool, true, false, cond, nat_lt, refl, subst, sym, ap, List, length, arith, IsTrue}
+use Rattle.std.proofs.Common.{◌≡◌, ◌≤◌, ◌+◌, ◌-◌, ◌*◌, ◌^◌, ◌↔◌, ℕ, Bool, true, false, cond, nat_lt, refl, subst, sym, ap, ◌∙◌, List, length, arith, IsTrue}
 use Rattle.k_types.specs.declared.names.Name.{Name}
 use Rattle.k_types.specs.declared.names.TypeId.{TypeId}
 use Rattle.k_words.specs.Words.{Text}
@@ -13,7 +13,7 @@ use Rattle.k_host.specs.k_guests.Objects.{objects_after}
 use Rattle.k_types.specs.Trace.{process_count, segment_count}
 use Rattle.k_types.specs.TraceRules.{KeepsRules}
 use Rattle.k_spell.specs.Spelled.{AreSpelled}
-use Rattle.k_keeper.specs.Keeping.{IsFit, IsKept, most_objects, needed_to_operate, objects_in, owed_by}
+use Rattle.k_keeper.specs.Keeping.{IsFit, IsKept, most_objects, most_with, needed_to_operate, objects_in, owed_by}
 use Rattle.k_keeper.specs.Kept.{HasFewEvents, HasOpened}
 use Rattle.k_keeper.proofs.Kept.{owed_settled}
 use Rattle.k_keeper.proofs.Refused.{keeper_of}
@@ -51,7 +51,7 @@ lesser_some a b some more = elim (nat_lt a b) as (λ t. 1 ≤ cond t a b) [
 ]
 
 module _ (text : Text) (ty : TypeId) (bodies : ℕ) (rooms : Rooms) (h : HostValue) (read : HasRead text ty bodies rooms h) where
-  pub same_objects : rooms.objects ≡ h.basis.rooms.objects
+  same_objects : rooms.objects ≡ h.basis.rooms.objects
   same_objects = sym (ap (λ (b : Basis). b.rooms.objects) read.fresh.basis_is)
 
   -- what is declared has the names of the text
@@ -76,6 +76,9 @@ module _ (text : Text) (ty : TypeId) (bodies : ℕ) (rooms : Rooms) (h : HostVal
   -- there is the directory
   pub first_objects : objects_in h ≡ 1
   first_objects = ap (objects_after h.basis.trace) read.fresh.journal
+
+  pub most_read : (most : ℕ) → most ≡ most_with h rooms.objects → most ≡ most_objects h
+  most_read most is = is ∙ ap (most_with h) same_objects
 
   pub first_listed : (most : ℕ) → most ≡ most_objects h → 1 ≤ most
   first_listed most is =

@@ -58,9 +58,12 @@ pub record IsKept (h : HostValue) (left : ℕ) : Type 0 where
 abbrev pub objects_in : HostValue → ℕ
 objects_in h = objects_after h.basis.trace h.book.journal.list
 
--- how many objects a host can have at once: so many in each segment, as far as they can be counted
+-- how many objects a host can have at once, where it has room for so many in each segment, as far as they can be counted
+abbrev pub most_with : HostValue → ℕ → ℕ
+most_with h objects = lesser (segment_count h.basis.trace * objects) (2 ^ 32 - 1)
+
 abbrev pub most_objects : HostValue → ℕ
-most_objects h = lesser (segment_count h.basis.trace * h.basis.rooms.objects) (2 ^ 32 - 1)
+most_objects h = most_with h h.basis.rooms.objects
 
 -- a keeper: its host, how many events are left beside those that are kept for the ends of processes, the names of the objects that the
 -- last collection freed, how many objects there are, and how many of the first events were taken out or passed over

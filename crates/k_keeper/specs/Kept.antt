@@ -19,6 +19,7 @@ use Rattle.k_host.specs.declared.errors.OpenError.{OpenError}
 use Rattle.k_host.specs.declared.errors.OpenError.TheVariants.{Terms}
 use Rattle.k_host.specs.Asked.{has_ended_of}
 use Rattle.k_host.specs.Calls.{HasCollectedKernelIn}
+use Rattle.k_host.specs.Growing.{HasGrown}
 use Rattle.k_host.specs.Hosts.{HostValue}
 use Rattle.k_host.specs.Opening.{HasRead, IsNotRead}
 use Rattle.k_host.specs.Refusals.{CanNotOperateIn, MayRefuse, MayRefuseAbsorption}
@@ -101,6 +102,13 @@ pub record HasFewEvents (bytes : Text) (ty : TypeId) (bodies : ℕ) (rooms : Roo
 -- no keeper is opened
 abbrev pub IsNotOpened : Text → TypeId → ℕ → Rooms → OpenError → Type 0
 IsNotOpened bytes ty bodies rooms why = IsNotRead bytes ty rooms why ⊎ HasFewEvents bytes ty bodies rooms why
+
+-- the host has these rooms, which are larger ones, so many of the last events can be read, as many more are left as there is room for, and
+-- nothing else has changed
+pub record HasGrownIn (old new : KeeperValue) (rooms : Rooms) (kept : ℕ) : Type 0 where
+  pub host : HasGrown old.host new.host rooms kept
+  pub left : new.left + old.host.basis.rooms.events ≡ old.left + rooms.events
+  pub rest : new ≡ record old { host = new.host; left = new.left }
 
 -- the next event is taken out, which is still among those that are kept, and nothing else has changed
 pub record HasTaken (old new : KeeperValue) (number : ℕ) (event : Event) : Type 0 where

@@ -2,9 +2,10 @@
 ghost use Rattle.std.specs.Prelude.{◌≡◌, ◌+◌, ◌≤◌, [], IfErr, IfNone, IfOk, IfSome, OnErr, OnOk};
 ghost use Rattle.k_host.specs.Whole.{AreFreedLast};
 ghost use Rattle.k_host.specs.Calls.{HasAbsorbedIn, HasCollectedIn, HasExitedIn, HasOperatedIn};
+ghost use Rattle.k_host.specs.Growing.{IsNotGrown};
 ghost use Rattle.k_keeper.specs.Keeping.{IsKept, needed_by_the_kernel, needed_to_operate, objects_in};
 ghost use Rattle.k_keeper.specs.Publishing.{HasPublishedEach};
-ghost use Rattle.k_keeper.specs.Kept.{HasCollectedAll, HasOpened, HasTaken, HasTakenNone, IsGone, IsNotOpened, MayRefuseCollection, MayRefuseKernel, MayRefuseOperation, MayRefuseToAbsorb};
+ghost use Rattle.k_keeper.specs.Kept.{HasCollectedAll, HasGrownIn, HasOpened, HasTaken, HasTakenNone, IsGone, IsNotOpened, MayRefuseCollection, MayRefuseKernel, MayRefuseOperation, MayRefuseToAbsorb};
 
 use crate::absorbing::absorb_all;
 use crate::alive::{alive, ready, spared, spelled};
@@ -13,7 +14,7 @@ use crate::rooms::{
     fits, has_object_left, left_after, most_objects, needed_by_the_kernel, needed_to_absorb,
     needed_to_collect, needed_to_operate, objects_then,
 };
-use k_host::{Freed, Host, HostError, OpenError, Rooms, Taken};
+use k_host::{Freed, GrowError, Host, HostError, OpenError, Rooms, Taken};
 use k_types::{Event, Name, Op, Pid, SharedId, TypeId};
 use std::alloc::Global;
 use std::marker::Model;
@@ -32,7 +33,7 @@ pub struct Keeper {
 }
 
 impl Model for Keeper {
-    ghost use Rattle.std.specs.Prelude.{◌≡◌, ◌≤◌};
+    ghost use Rattle.std.specs.Prelude.{◌≡◌, ◌≤◌, length};
     ghost use Rattle.k_keeper.specs.Keeping.{IsKept, KeeperValue, most_objects, objects_in};
 
     ghost Value = { KeeperValue };
@@ -44,6 +45,7 @@ impl Model for Keeper {
       counted : objects_in k.host ≡ k.objects;
       listed : k.objects ≤ k.most;
       room : k.freed.room ≡ k.most;
+      named : length k.freed.names ≤ k.most;
       most : k.most ≡ most_objects k.host;
     } };
 }
@@ -123,6 +125,32 @@ impl Keeper {
         let taken = self.host.next_from(self.taken)?;
         self.taken = taken.number + 1;
         Some(taken)
+    }
+
+    /// Has these rooms from now on, as `Host::grow` says, and answers how many of the last events can be read. As many events more are left for
+    /// operations and collections as there is room for. It takes memory also for the names of the objects that can live beside those that
+    /// could.
+    ///
+    /// # Errors
+    ///
+    /// Each changes nothing: those of `Host::grow`, `Rooms` where the rooms are not larger ones, and else `NoMemory`.
+    pub fn grow(&mut self, rooms: Rooms) -> Result<u32, GrowError>
+        ensures grown { IfOk result (λ kept. HasGrownIn self.old self.new rooms kept) }
+        ensures same { OnErr result (self.new ≡ self.old) }
+        ensures why { IfErr result (λ why. IsNotGrown self.old.host rooms why) }
+    {
+        if !self.host.can_grow(&rooms) {
+            return Err(GrowError::Rooms);
+        }
+        let more = rooms.events - self.host.rooms().events;
+        let most = most_objects(&self.host, rooms.objects);
+        let freed = Freed::make(self.host.allocator(), most)?;
+        let kept = self.host.grow(rooms)?;
+        self.host.serves();
+        self.freed.move_into(freed);
+        self.most = most;
+        self.left += more;
+        Ok(kept)
     }
 
     /// The names of the objects that the last collection freed, of a process's heap or the kernel's, each once and in any order; none before

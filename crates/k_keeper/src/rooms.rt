@@ -4,7 +4,7 @@ ghost use Rattle.k_bounds.specs.Counts.{is_allocation};
 ghost use Rattle.k_host.specs.k_guests.Objects.{gone_by, made_by};
 ghost use Rattle.k_host.specs.CallsRefusals.{Lacks};
 ghost use Rattle.k_host.specs.HostError.TheVariants.{Objects};
-ghost use Rattle.k_keeper.specs.Keeping.{CanCount, left_after, most_objects, needed_by_the_kernel, needed_to_absorb, needed_to_collect, needed_to_operate, objects_then};
+ghost use Rattle.k_keeper.specs.Keeping.{CanCount, left_after, most_with, needed_by_the_kernel, needed_to_absorb, needed_to_collect, needed_to_operate, objects_then};
 
 use k_host::{Host, HostError};
 use k_types::{Event, Op, Reply};
@@ -82,11 +82,10 @@ pub(crate) fn objects_then(objects: u32, came: &Result<Event, HostError>) -> u32
     }
 }
 
-/// How many objects the host can have at once. Constant time.
+/// How many objects the host can have at once, where it has room for so many in each heap. Constant time.
 pub(crate) fn most_objects(host: &Host, objects: u32) -> u32
-    requires same { objects ≡ host.now.basis.rooms.objects }
-    requires few { objects < 2 ^ 30 }
-    ensures { result ≡ most_objects host.now }
+    requires { objects < 2 ^ 30 }
+    ensures { result ≡ most_with host.now objects }
 {
     host.serves();
     let segments = 1 + u64::from(host.processes()) + u64::from(host.shared_heaps());

@@ -1,7 +1,7 @@
 """The numbers of `kaffe.h`, and requests and answers as they cross to C, for `machine.py` and `model.py`."""
 import struct
 
-UNKNOWN, ENDED, ORPHAN, NO_CALL, RESERVED, OBJECTS, ITEMS, FORGOTTEN, OVER = 1, 3, 7, 8, 10, 11, 12, 13, 16
+UNKNOWN, ENDED, ORPHAN, NO_CALL, RESERVED, OBJECTS, ITEMS, FORGOTTEN, OVER, LESS_ROOMS = 1, 3, 7, 8, 10, 11, 12, 13, 16, 19
 NOTHING, NAME, NUMBER, FREED, TEXTS = range(5)
 FAULTS = ("Done Null Foreign NotSharer NoField WrongKind Frozen Segv NotPopulating NotFrozen Taken LimitFull KernelFull "
           "ProcNotBelow LimitNotBelow InUse").split()

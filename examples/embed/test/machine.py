@@ -3,9 +3,9 @@
 It shares no code with the library. Everything is summed up afresh from the objects; nothing is counted as it changes. The journal is kept
 whole, and what each process did inside its heap beside it until it is published.
 """
-from dataclasses import dataclass
+from dataclasses import astuple, dataclass, replace
 
-from codes import (UNKNOWN, ENDED, ORPHAN, NO_CALL, RESERVED, OBJECTS, ITEMS, FORGOTTEN, OVER, NAME, NUMBER, FREED, TEXTS, FAULT, NEW, KNEW, SNEW, STORE, LOAD,
+from codes import (UNKNOWN, ENDED, ORPHAN, NO_CALL, RESERVED, OBJECTS, ITEMS, FORGOTTEN, OVER, LESS_ROOMS, NAME, NUMBER, FREED, TEXTS, FAULT, NEW, KNEW, SNEW, STORE, LOAD,
                    MOVE, CLEAR, DIR, PUT, GET, SHARE, FREEZE, ATTACH, KILL_BY, RESIZE, COLLECT, KCOLLECT, KILL, ABSORB, TAKE, PUBLISH, PRINT,
                    END_OF_A_COLLECTION, EVENT, CAME, REGISTERS_OF, REGISTERS, LIVES, BYTES, CHARGE, USE, MAX, REGISTER, DONE, EVENTS,
                    BODIES, KERNEL_BYTES, FIRST_ORPHAN, LEFT, FREED_COUNT, FREED_NAME, answer, asked)
@@ -14,6 +14,7 @@ from printing import texts
 KERNEL = ("kernel", 0)
 MAXIMUM_BELOW = 1 << 40
 MOST_FIELDS = 16
+EVENTS_BELOW, ROOMS_BELOW = 1 << 55, 1 << 30
 
 
 class Refused(Exception):
@@ -41,6 +42,8 @@ class Host:
         self.ceiling, self.types, self.limits, self.procs, self.of_type = ceiling, types, limits, procs, of_type
         self.shared_count = shared
         self.rooms = rooms
+        # The journal's last events lie in a buffer for so many, and so many of the first ones are in it no more.
+        self.buffer, self.gone = rooms.kept, 0
         self.left = rooms.events - len(procs)
         self.journal = []
         self.tails = [[] for _ in procs]
@@ -496,6 +499,27 @@ class Host:
                  BODIES: lambda: self.bodies[q.pid],
                  BYTES: lambda: 0 if q.pid in self.ended else self.bytes_of(("user", q.pid))}
         return answer(what=NUMBER, number=found[q.call]())
+
+    # Larger rooms.
+    def are_larger(self, new):
+        old, procs = self.rooms, len(self.procs)
+        if new.events >= EVENTS_BELOW or any(n >= ROOMS_BELOW for n in astuple(new)[1:]):
+            return False
+        if new.kept > new.events or new.tail < 1 or new.objects < 1 or new.exits * procs > new.kernel_exits:
+            return False
+        if any(n < o for o, n in zip(astuple(old), astuple(new))):
+            return False
+        return (new.exits - old.exits) * procs <= new.kernel_exits - old.kernel_exits
+
+    def grow(self, new):
+        if not self.are_larger(new):
+            return answer(status=LESS_ROOMS)
+        self.gone = max(self.gone, len(self.journal) - self.buffer)
+        self.buffer = max(self.buffer, new.kept)
+        held = len(self.journal) - self.gone
+        self.left += new.events - self.rooms.events
+        self.rooms = replace(new, kept=held if self.gone and held < new.kept else new.kept)
+        return answer(what=NUMBER, number=self.rooms.kept)
 
     def serve(self, q):
         if q.call <= RESIZE:

@@ -2,23 +2,25 @@
 
     model.py SEED CALLS > calls.bin
 
-`replay.c` reads what this prints, does each call through the C functions, and compares each answer, the names of what the last
+`replay.c` reads what this prints, does each call through the C functions, gives hosts larger rooms at times, and compares each answer, the names of what the last
 collection freed, and both texts of a host that is printed.
 """
 import random
 import struct
 import sys
-from dataclasses import astuple
+from dataclasses import astuple, fields
 
 sys.dont_write_bytecode = True
 
-from codes import (ABSORB, ATTACH, CAME, CLEAR, COLLECT, DIR, EVENT, FREED_NAME, FREEZE, GET, KCOLLECT, KILL, KILL_BY, KNEW, LIVES,  # noqa: E402
-                   LOAD, MOVE, NEW, PRINT, PUBLISH, PUT, RESIZE, SHARE, SNEW, STORE, TAKE, Request)
+from codes import (ABSORB, ATTACH, CAME, CLEAR, COLLECT, DIR, EVENT, FORGOTTEN, FREED_NAME, FREEZE, GET, ITEMS, KCOLLECT, KILL, KILL_BY,  # noqa: E402
+                   KNEW, LIVES, LOAD, MOVE, NEW, OBJECTS, PRINT, PUBLISH, PUT, RESERVED, RESIZE, SHARE, SNEW, STORE, TAKE, Request)
 from machine import Host, Refused, Rooms  # noqa: E402
 
 CALLS_OF_A_HOST = [200, 600, 2000]
 AIMED = 0.6
 NAMES_COMPARED, TEXTS_COMPARED = 0.1, 0.005
+# How often a host gets larger rooms, by how often it lacks some, and the most events that are kept then.
+GROWN, GROWN_WHERE_FULL, MOST_KEPT = 0.005, 0.1, 100_000
 
 
 def reserves(limits, parent, most):
@@ -66,6 +68,20 @@ def some_rooms(rng, events, fewest, procs):
         kernel_exits=procs * exits + (rng.choice([0, 1, 4]) if small and rng.random() < 0.6 else events),
         entries=rng.choice([0, 1, 5, 15]) if small and rng.random() < 0.4 else (procs + 1) * events,
     )
+
+
+def larger_rooms(rng, host):
+    """Rooms that are mostly larger than those of the host, and which it mostly can have."""
+    old, procs = host.rooms, len(host.procs)
+    more = [rng.choice([0, 0, 1, 3, 20]) for _ in range(7)]
+    more[5] += procs * more[4] if rng.random() < 0.95 else 0
+    events = min(old.events + 10 * more[0], (1 << 55) - 1)
+    kept = min(events, old.kept + more[1] if rng.random() < 0.7 else events, MOST_KEPT)
+    rooms = Rooms(events, max(kept, old.kept), *[n + m for n, m in zip(astuple(old)[2:], more[2:])])
+    if rng.random() < 0.1:
+        name = rng.choice(fields(Rooms)).name
+        setattr(rooms, name, rng.choice([0, max(0, getattr(old, name) - 1), 1 << 30]))
+    return rooms
 
 
 def some_call(rng, host):
@@ -126,6 +142,11 @@ def aimed(rng, host, q):
     return q
 
 
+def lacks_room(due):
+    """Whether the call lacks a room."""
+    return struct.unpack_from("<I", due)[0] in (RESERVED, OBJECTS, ITEMS, FORGOTTEN)
+
+
 def main():
     seed, calls = int(sys.argv[1]), int(sys.argv[2])
     rng, out = random.Random(seed), sys.stdout.buffer
@@ -142,6 +163,9 @@ def main():
                 out.write(b"C" + published.packed() + host.serve(published))
             due = host.serve(q)
             out.write(b"C" + q.packed() + due)
+            if rng.random() < (GROWN_WHERE_FULL if lacks_room(due) else GROWN):
+                rooms = larger_rooms(rng, host)
+                out.write(b"G" + struct.pack("<Q6I", *astuple(rooms)) + host.grow(rooms))
             if q.call == PRINT or rng.random() < TEXTS_COMPARED:
                 out.write(b"T" + b"".join(struct.pack("<2I", len(text), rng.randrange(1, len(text) + 20)) + text for text in host.texts))
             if q.call in (COLLECT, KCOLLECT) or rng.random() < NAMES_COMPARED:

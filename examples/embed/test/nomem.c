@@ -1,6 +1,6 @@
 /* Want of memory at each allocation of the opening in turn, at that one alone and from that one on: no host is made, and all that was taken is
-   given back. After the opening a call takes memory only for an object of which the supply has no body and for printing, and where it is refused
-   nothing has changed. Linked with -Wl,--wrap=malloc,--wrap=realloc,--wrap=free. */
+   given back. After the opening a call takes memory only for an object of which the supply has no body, for printing and for larger rooms, and
+   where it is refused nothing has changed. Linked with -Wl,--wrap=malloc,--wrap=realloc,--wrap=free. */
 #include "../kaffe.h"
 #include <stdio.h>
 
@@ -124,6 +124,46 @@ static int is_printing_answered(kaffe_host *h) {
     return 1;
 }
 
+/* As many objects live in the guest's heap as it has room for. */
+static int is_full(kaffe_host *h) {
+    while (kaffe_new(h, 1, 0, NODE).status == KAFFE_OK) continue;
+    return kaffe_new(h, 1, 0, NODE).status == KAFFE_OBJECTS;
+}
+
+/* Want of memory at each allocation of larger rooms in turn is answered, and has changed nothing: each room is the old one still. */
+static int is_growing_answered(kaffe_host *h, kaffe_rooms rooms) {
+    kaffe_answer a;
+    uint64_t charge, before;
+    if (!is_full(h)) return 0;
+    charge = kaffe_charge(h, 1);
+    before = kaffe_left(h);
+    long n = 0, had = live;
+    for (;; n++) {
+        taken = 0;
+        refused_at = n;
+        a = kaffe_grow(h, rooms);
+        refused_at = -1;
+        if (a.status == KAFFE_OK) break;
+        if (a.status != KAFFE_NO_MEMORY || live != had) return 0;
+        if (kaffe_left(h) != before || kaffe_charge(h, 1) != charge || kaffe_new(h, 1, 0, NODE).status != KAFFE_OBJECTS) return 0;
+    }
+    return n > 0 && a.number == rooms.kept && kaffe_left(h) == before + rooms.events - EVENTS && kaffe_new(h, 1, 0, NODE).status == KAFFE_OK;
+}
+
+/* Larger rooms in each number, for a host that has kept all its events. */
+static int are_rooms_answered(void) {
+    kaffe_answer why;
+    for (is_alone = 0; is_alone < 2; is_alone++) {
+        kaffe_host *h = opened(-1, &why);
+        kaffe_rooms rooms = kaffe_rooms_for(2 * OBJECTS, PROCESSES, SHARED_HEAPS);
+        rooms.events = rooms.kept = 2 * EVENTS;
+        if (!h || !is_growing_answered(h, rooms)) return 0;
+        kaffe_free(h);
+        if (live != 0) return 0;
+    }
+    return 1;
+}
+
 /* Calls of each kind, of which none takes memory: the supply has a body for each allocation. */
 static int is_served(kaffe_host *h) {
     taken = 0;
@@ -156,8 +196,9 @@ int main(void) {
     if (!is_printing_answered(h)) return fprintf(stderr, "nomem: want of memory for printing is not answered\n"), 1;
     kaffe_free(h);
     if (live != 0) return fprintf(stderr, "nomem: memory for objects or texts is left\n"), 1;
+    if (!are_rooms_answered()) return fprintf(stderr, "nomem: want of memory for larger rooms is not answered\n"), 1;
     for (is_alone = 0; is_alone < 2; is_alone++)
         if (!is_each_answered(allocations)) return 1;
-    printf("want of memory at each of the %ld allocations of an opening, and at those of an object and of printing, is answered\n", allocations);
+    printf("want of memory at each of the %ld allocations of an opening, and at those of an object, of printing and of larger rooms, is answered\n", allocations);
     return 0;
 }

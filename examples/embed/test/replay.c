@@ -72,9 +72,17 @@ static void print(const char *who, kaffe_answer a) {
             a.status, a.fault, a.at, a.what, a.seg, a.serial, a.number);
 }
 
+/* Whether the answers are the same; else both are printed. */
+static int same_answer(kaffe_answer said, kaffe_answer due) {
+    if (memcmp(&said, &due, sizeof due) == 0) return 1;
+    print("library", said);
+    print("model", due);
+    return 0;
+}
+
 int main(void) {
     kaffe_host *h = NULL;
-    unsigned long calls = 0, hosts = 0, lacks = 0, faults = 0, lists = 0, texts = 0;
+    unsigned long calls = 0, hosts = 0, lacks = 0, faults = 0, lists = 0, texts = 0, grown = 0;
     for (int tag; (tag = getchar()) != EOF;) {
         if (tag == 'O') {
             h = open_next();
@@ -95,6 +103,16 @@ int main(void) {
                 return 1;
             }
             texts++;
+        } else if (tag == 'G') {
+            kaffe_rooms rooms;
+            kaffe_answer due;
+            need(&rooms, sizeof rooms);
+            need(&due, sizeof due);
+            grown += due.status == 0;
+            if (!same_answer(kaffe_grow(h, rooms), due)) {
+                fprintf(stderr, "replay: after call %lu larger rooms differ\n", calls);
+                return 1;
+            }
         } else {
             kaffe_request q;
             kaffe_answer due, said;
@@ -104,16 +122,14 @@ int main(void) {
             calls++;
             lacks += due.status != 0;
             faults += due.fault != 0;
-            if (memcmp(&said, &due, sizeof due) != 0) {
+            if (!same_answer(said, due)) {
                 fprintf(stderr, "replay: call %lu differs: call %" PRIu32 " pid %" PRIu32 " at %" PRIu32 " to %" PRIu32 " reg %u base %u\n", calls, q.call, q.pid, q.at,
                         q.to, q.reg, q.base);
-                print("library", said);
-                print("model", due);
                 return 1;
             }
         }
     }
-    printf("%lu calls in %lu hosts, %lu lacking and %lu refused, %lu lists of freed names and %lu pairs of texts: each is the model's\n", calls, hosts, lacks,
-           faults, lists, texts);
+    printf("%lu calls in %lu hosts, %lu lacking and %lu refused, %lu larger rooms, %lu lists of freed names and %lu pairs of texts: each is the model's\n", calls,
+           hosts, lacks, faults, grown, lists, texts);
     return calls == 0;
 }

@@ -25,6 +25,7 @@ invariant_of-self c = record {
       absorb_same c.self.inside.host c.absorb-came.new.self c.self.invariant.kept.serves c.serves.ensures c.args.id c.absorb-came.result c.absorb-came.ensures.done c.absorb-came.ensures.same ∙ c.self.invariant.counted;
   listed = c.self.invariant.listed;
   room = c.self.invariant.room;
+  named = c.self.invariant.named;
   most = most_same c.self.inside.host c.absorb-came.new.self c.self.inside.most c.self.invariant.most (absorb_basis c.self.inside.host c.absorb-came.new.self c.absorb-came.result c.absorb-came.ensures.same c.args.id c.absorb-came.ensures.done);
 }
 

@@ -5,6 +5,7 @@ use Rattle.k_host.specs.Calls.{HasCollectedIn}
 use Rattle.k_keeper.specs.Keeping.{KeeperValue, needed_by_the_kernel}
 use Rattle.k_keeper.specs.Kept.{MayRefuseCollection}
 use Rattle.k_keeper.proofs.Counted.{can_count, collect_told, most_low, most_same, then_counted, then_listed}
+use Rattle.k_keeper.proofs.Listed.{collect_named}
 use Rattle.k_keeper.proofs.Refused.{collect_basis, collect_kept, collect_why, collection_unready, keeper_of, leaves, names_kept, takes, unchanged}
 use Rattle.k_keeper.proofs.keeper.Keeper.collect.Goals as goal
 
@@ -40,6 +41,12 @@ invariant_of-self c = record {
       let is = c.objects_then-self-inside.ensures in
       omega (arith, all, is);
   room = c.collect-came.ensures.room ∙ c.self.invariant.room;
+  named =
+      let counted = c.self.invariant.counted in
+      let listed = c.self.invariant.listed in
+      let room = c.self.invariant.room in
+      collect_named c.self.inside.host c.collect-came.new.self c.self.inside.objects c.self.inside.most counted listed c.self.invariant.kept.serves c.serves.ensures c.self.inside.freed c.collect-came.new.freed c.self.invariant.named c.args.pid c.collect-came.result
+      c.collect-came.ensures.done c.collect-came.ensures.kept (c.collect-came.ensures.freed (omega (arith, counted, listed, room)));
   most = most_same c.self.inside.host c.collect-came.new.self c.self.inside.most c.self.invariant.most (collect_basis c.self.inside.host c.collect-came.new.self c.collect-came.result c.collect-came.ensures.same c.args.pid c.collect-came.ensures.done);
 }
 

@@ -4,6 +4,7 @@ use Rattle.k_limits.proofs.Making.{handed_on}
 use Rattle.k_keeper.specs.Keeping.{KeeperValue}
 use Rattle.k_keeper.specs.Kept.{HasCollectedAll, MayRefuseKernel}
 use Rattle.k_keeper.proofs.Counted.{can_count, kernel_told, most_low, most_same, still_counted, then_counted, then_listed}
+use Rattle.k_keeper.proofs.Listed.{kernel_named}
 use Rattle.k_keeper.proofs.Refused.{alive_still, collected_all, keeper_of, kernel_basis, kernel_kept, kernel_same, kernel_unready, kernel_why}
 use Rattle.k_keeper.proofs.keeper.Keeper.collect_kernel.Goals as goal
 
@@ -42,6 +43,12 @@ invariant_of-self c = record {
       let is = c.objects_then-self-inside.ensures in
       omega (arith, all, is);
   room = c.collect_kernel-came.ensures.room ∙ c.self.invariant.room;
+  named =
+      let counted = still_counted c.self.inside.host c.absorb_all-left.new.host c.self.inside.left c.absorb_all-left.result c.absorb_all-left.ensures.absorbed ∙ c.self.invariant.counted in
+      let listed = c.self.invariant.listed in
+      let room = c.self.invariant.room in
+      kernel_named c.absorb_all-left.new.host c.collect_kernel-came.new.self c.self.inside.objects c.self.inside.most counted listed c.absorb_all-left.ensures.kept.serves c.serves.ensures c.self.inside.freed c.collect_kernel-came.new.freed c.self.invariant.named c.args.pid c.collect_kernel-came.result
+      c.collect_kernel-came.ensures.done c.collect_kernel-came.ensures.kept (c.collect_kernel-came.ensures.freed (omega (arith, counted, listed, room)));
   most = most_same c.self.inside.host c.collect_kernel-came.new.self c.self.inside.most c.self.invariant.most
       (kernel_basis c.absorb_all-left.new.host c.collect_kernel-came.new.self c.collect_kernel-came.result c.collect_kernel-came.ensures.same c.args.pid c.collect_kernel-came.ensures.done ∙ c.absorb_all-left.ensures.absorbed.basis);
 }

@@ -20,6 +20,7 @@ invariant_of-self c = record {
       exit_same c.self.inside.host c.exit-came.new.self c.self.invariant.kept.serves c.serves.ensures c.args.pid c.exit-came.result c.exit-came.ensures.done c.exit-came.ensures.same ∙ c.self.invariant.counted;
   listed = c.self.invariant.listed;
   room = c.self.invariant.room;
+  named = c.self.invariant.named;
   most = most_same c.self.inside.host c.exit-came.new.self c.self.inside.most c.self.invariant.most (exit_basis c.self.inside.host c.exit-came.new.self c.exit-came.result c.exit-came.ensures.same c.args.pid c.exit-came.ensures.done);
 }
 

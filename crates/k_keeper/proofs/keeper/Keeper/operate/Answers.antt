@@ -53,6 +53,7 @@ invariant_of-self c = record {
       let is = c.objects_then-self-inside.ensures in
       omega (arith, all, is);
   room = c.self.invariant.room;
+  named = c.self.invariant.named;
   most = most_same c.self.inside.host c.operate-came.new.self c.self.inside.most c.self.invariant.most (operate_basis c.self.inside.host c.operate-came.new.self c.operate-came.result c.operate-came.ensures.same c.args.pid c.args.op.now c.operate-came.ensures.done);
 }
 

@@ -16,6 +16,7 @@ invariant_of-self c = record {
   counted = c.publish_each.ensures.objects ∙ c.self.invariant.counted;
   listed = c.self.invariant.listed;
   room = c.self.invariant.room;
+  named = c.self.invariant.named;
   most = most_same c.self.inside.host c.publish_each.new.host c.self.inside.most c.self.invariant.most (ap (λ (x : HostValue). x.basis) c.publish_each.ensures.published.host_is);
 }
 

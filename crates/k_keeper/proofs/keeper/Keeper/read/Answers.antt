@@ -1,8 +1,8 @@
-use Rattle.std.proofs.Common.{◌∙◌, ap, inl, inr, arith}
+use Rattle.std.proofs.Common.{◌∙◌, ap, inl, inr, length, arith}
 use Rattle.k_limits.proofs.Making.{handed_on}
 use Rattle.k_host.specs.Listening.{FreedNames}
 use Rattle.k_keeper.specs.Kept.{IsNotOpened}
-use Rattle.k_keeper.proofs.Opened.{few_events, first_listed, first_objects, opened, read_kept, same_objects}
+use Rattle.k_keeper.proofs.Opened.{few_events, first_listed, first_objects, most_read, opened, read_kept}
 use Rattle.k_keeper.proofs.keeper.Keeper.read.Goals as goal
 
 pub returns-in_err-host-clause-why : goal.returns-in_err-host-clause-why
@@ -18,16 +18,14 @@ pub invariant_of-result : goal.invariant_of-result
 invariant_of-result c = record {
   kept = read_kept c.args.text.now c.args.ty c.args.bodies c.args.rooms c.in_ok-host.host c.in_ok-host.ensures.read (c.fits.ensures.0 c.if-not-fits.false) c.from.result (c.from.ensures ∙ c.processes.ensures);
   counted = first_objects c.args.text.now c.args.ty c.args.bodies c.args.rooms c.in_ok-host.host c.in_ok-host.ensures.read;
-  listed = first_listed c.args.text.now c.args.ty c.args.bodies c.args.rooms c.in_ok-host.host c.in_ok-host.ensures.read c.most_objects-most.result c.most_objects-most.ensures;
+  listed = first_listed c.args.text.now c.args.ty c.args.bodies c.args.rooms c.in_ok-host.host c.in_ok-host.ensures.read c.most_objects-most.result (most_read c.args.text.now c.args.ty c.args.bodies c.args.rooms c.in_ok-host.host c.in_ok-host.ensures.read c.most_objects-most.result c.most_objects-most.ensures);
   room = ap (λ (f : FreedNames). f.room) c.in_ok-freed.ensures;
-  most = c.most_objects-most.ensures;
+  named = let none = ap (λ (f : FreedNames). length f.names) c.in_ok-freed.ensures in omega (arith, none);
+  most = most_read c.args.text.now c.args.ty c.args.bodies c.args.rooms c.in_ok-host.host c.in_ok-host.ensures.read c.most_objects-most.result c.most_objects-most.ensures;
 }
 
-pub most_objects-most-requires-clause-same : goal.most_objects-most-requires-clause-same
-most_objects-most-requires-clause-same c = same_objects c.args.text.now c.args.ty c.args.bodies c.args.rooms c.in_ok-host.host c.in_ok-host.ensures.read
-
-pub most_objects-most-requires-clause-few : goal.most_objects-most-requires-clause-few
-most_objects-most-requires-clause-few c = c.in_ok-host.ensures.read.fit.few.objects
+pub most_objects-most-requires : goal.most_objects-most-requires
+most_objects-most-requires c = c.in_ok-host.ensures.read.fit.few.objects
 
 pub returns-clause-read : goal.returns-clause-read
 returns-clause-read c = opened c.args.text.now c.args.ty c.args.bodies c.args.rooms c.in_ok-host.host c.in_ok-host.ensures.read (c.fits.ensures.0 c.if-not-fits.false) c.from.result (c.from.ensures ∙ c.processes.ensures) c.in_ok-freed.freed.names 1
