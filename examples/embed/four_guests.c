@@ -17,10 +17,11 @@ static const char *DECLARED = "kaffe 1\nkernel 4096 4\ntype Node ref ref int\nli
                               "limit a root hard 10000\nlimit b root hard 10000\nlimit c root hard 10000\nlimit d root hard 10000\n"
                               "proc a a\nproc b b\nproc c c\nproc d d\n";
 
-/* A lock. None lies in a line of a processor's cache with another one. */
+/* A lock. Nothing that another thread reads or writes lies in a line of a processor's cache with it: a thread that takes it would wait for that. */
 typedef struct lock {
+    char before[128];
     pthread_mutex_t mutex;
-    char apart[128];
+    char behind[128];
 } lock;
 
 /* The parts of the host, each with its lock. They are taken in the order: guest, kernel, book. */

@@ -100,18 +100,22 @@ mod over {
     }
 }
 
+/// A part behind its lock. No other lock lies in a line of a processor's cache with it: a thread that takes one would wait for the others.
+#[repr(align(128))]
+struct Lock(Mutex<Part>);
+
 /// A host in parts, each behind a lock. Threads share it, by `&Parts`. Dropping it gives all its memory back.
 pub struct Parts {
-    guests: Vec<Mutex<Part>>,
-    kernel: Mutex<Part>,
-    heaps: Vec<Mutex<Part>>,
-    book: Mutex<Part>,
+    guests: Vec<Lock>,
+    kernel: Lock,
+    heaps: Vec<Lock>,
+    book: Lock,
     /// The address of this is the host's number, which no other host has at the same time.
     _number: Box<u64>,
 }
 
 /// The part, locked. A thread that panics while it has a part leaves it as a call left it.
-fn locked(part: &Mutex<Part>) -> MutexGuard<'_, Part> {
+fn locked(Lock(part): &Lock) -> MutexGuard<'_, Part> {
     part.lock().unwrap_or_else(PoisonError::into_inner)
 }
 
@@ -147,10 +151,10 @@ impl Parts {
             (status::NO_HOST, line, reason) => return Err(OpenError::Bad { line, reason }),
             _ => {}
         }
-        let guests = (0..lines_of(text, "proc")).map(|_| Mutex::new(row.take())).collect();
-        let kernel = Mutex::new(row.take());
-        let heaps = (0..lines_of(text, "shared")).map(|_| Mutex::new(row.take())).collect();
-        let book = Mutex::new(row.take());
+        let guests = (0..lines_of(text, "proc")).map(|_| Lock(Mutex::new(row.take()))).collect();
+        let kernel = Lock(Mutex::new(row.take()));
+        let heaps = (0..lines_of(text, "shared")).map(|_| Lock(Mutex::new(row.take()))).collect();
+        let book = Lock(Mutex::new(row.take()));
         Ok(Parts { guests, kernel, heaps, book, _number: place })
     }
 

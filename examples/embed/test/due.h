@@ -18,7 +18,7 @@ static void due(const char *what, uint64_t said, uint64_t wanted) {
 
 /* The fault of an operation that is done, with the limit or shared heap that it names in the higher half. */
 static uint64_t fault_of(kaffe_answer a) { return a.status ? 1000 + a.status : a.fault + ((uint64_t)a.at << 32); }
-static uint64_t named(enum kaffe_fault fault, uint64_t at) { return (uint64_t)fault + (at << 32); }
+static inline uint64_t named(enum kaffe_fault fault, uint64_t at) { return (uint64_t)fault + (at << 32); }
 
 enum { HOST, GUEST, OTHER, POOR, PROCESSES };
 enum { ROOT, ALL, LOW };
