@@ -1,9 +1,11 @@
-//! A host in Rust is closed exactly once, wherever it goes out of scope; and its errors and events have the names of the module. Linked with
+//! A host in Rust is closed exactly once, wherever it goes out of scope; its errors and events have the names of the module, also where its rooms
+//! grow; and a host in parts tells charges and events. Linked with
 //! `-Wl,--wrap=kaffe_close`, so that each closing is counted on its way to the library.
 #[path = "../kaffe.rs"]
 #[allow(dead_code)]
 mod kaffe;
 
+use kaffe::parts::Parts;
 use kaffe::{Asked, Came, Event, Host, Lack, OpenError, Pid, Refusal, Reg, Rooms, Taken, TypeId};
 use std::sync::atomic::{AtomicUsize, Ordering};
 
@@ -64,11 +66,37 @@ fn has_names() {
     assert_eq!(host.take_event(), None);
     assert_eq!(host.event(1), None);
     assert_eq!(host.events(), Some(5));
+    assert_eq!(host.new(GUEST, Reg(4), NODE), Err(Refusal::Lack(Lack::Objects)));
+    assert_eq!(host.grow(Rooms { objects: 1, ..rooms }), Err(Lack::Rooms));
+    assert_eq!(host.grow(Rooms { kept: 5, objects: 3, ..rooms }), Ok(3), "two events are forgotten");
+    host.new(GUEST, Reg(4), NODE).expect("there is room now");
+    assert_eq!(host.charge(GUEST), Some(72));
     let unfit = Host::open_with(DECLARED, NODE, 0, Rooms { tail: 0, ..rooms });
     assert!(matches!(unfit, Err(OpenError::Terms)));
+}
+
+/// What a guest is charged, and which event is next, by a host in parts.
+fn parts_tell() {
+    let rooms = Rooms { kept: 2, ..Rooms::for_objects(10, 2, 0) };
+    let host = Parts::open_with(DECLARED, NODE, 0, rooms).expect("the rooms are fit");
+    assert_eq!((host.charge(GUEST), host.charge(Pid(2))), (Some(0), None));
+    assert_eq!(host.take_event(), None);
+    let made = host.new(GUEST, Reg(1), NODE).expect("there is room");
+    assert_eq!(host.charge(GUEST), Some(24));
+    let event = Event { asked: Asked::New { pid: GUEST, reg: Reg(1), ty: NODE }, came: Came::Referred(Some(made)) };
+    assert_eq!(host.take_event(), Some(Taken { number: 0, event }));
+    assert_eq!(host.take_event(), None);
+    host.collect(GUEST).expect("there is room");
+    host.kill(GUEST).expect("it lives");
+    assert_eq!(host.charge(GUEST), Some(0));
+    let next = host.take_event().expect("there is one");
+    assert_eq!((next.number, next.event.asked), (2, Asked::Ended { of: Some(GUEST) }), "event 1 is forgotten");
+    assert_eq!(host.take_event().map(|taken| taken.number), Some(3));
+    assert_eq!(host.take_event(), None);
 }
 
 fn main() {
     is_closed_once();
     has_names();
+    parts_tell();
 }

@@ -43,6 +43,10 @@ static void objects(void) {
     STATUS(kaffe_new(h, GUEST, 0, NODE), KAFFE_OBJECTS);
     due("what is freed then", kaffe_collect(h, GUEST).seg, 4);
     due("its names", kaffe_freed(h, gone, 4), 4);
+    rooms.objects = ROOMY;
+    grown(h, rooms, 0);
+    for (int i = 0; i < 18; i++) FAULT(kaffe_new(h, GUEST, 0, NODE), KAFFE_DONE);
+    FAULT(kaffe_new(h, GUEST, 0, NODE), named(KAFFE_LIMIT_FULL, ALL)); /* a larger room is no larger limit */
     kaffe_free(h);
 }
 
