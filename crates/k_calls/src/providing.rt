@@ -62,6 +62,7 @@ fn give_body(cell: &mut HeapCell, body: Body) -> Result<(), HostError>
 }
 
 /// Has the body of the object that the operation makes come first: one of the supply, or else a new one.
+#[inline(always)]
 pub(crate) fn provide(
     alloc: Global,
     terms: &Terms,

@@ -8,6 +8,7 @@ use k_types::{LimitId, Pid};
 
 /// Charges the process so many bytes at its limit. The error is the first limit, from the process's own upwards, at which they do
 /// not fit; then nothing is charged. The cost is in proportion to the number of limits above the process's.
+#[inline(always)]
 pub fn charge_process(book: &mut Book, pid: Pid, bytes: u64) -> Result<(), LimitId>
     ghost trace: { Trace }
     requires { CanCharge trace book.old pid.0 }

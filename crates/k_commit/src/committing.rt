@@ -9,6 +9,7 @@ use k_heap::HeapCell;
 use k_types::{Event, Op, Reply};
 
 /// Commits an operation that touches the process's own cell alone, and answers its event. Constant time.
+#[inline(always)]
 pub fn commit_heap(cell: &mut HeapCell, book: &mut Book, op: Op, said: Reply) -> Event
     ghost before: { Before }
     requires { HasChanged before cell.old book.old op said }

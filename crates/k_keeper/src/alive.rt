@@ -50,6 +50,7 @@ pub(crate) fn ready(host: &Host, pid: Pid, left: u64, needed: u64) -> Result<(),
 }
 
 /// Tells that a line of a trace can have the operation. So whatever the processes ask for, all that the host does can be printed.
+#[inline(always)]
 pub(crate) fn spelled(op: &Op) -> Result<(), HostError>
     ensures ok { OnOk result (IsTrue (is_spelled op.now)) }
     ensures why { IfErr result (λ why. Lacks HostError.Unknown (IsTrue (is_spelled op.now)) why) }

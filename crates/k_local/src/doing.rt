@@ -108,6 +108,7 @@ fn number_in(stored: Stored) -> u64
 }
 
 /// What the look-up of the field finds, where the object is of the process's own segment.
+#[inline(always)]
 fn own_field(cell: &HeapCell, at: Link, field: u32) -> Option<Stored>
     ensures own { is_some result ≡ (at.seg.0 == cell.now.pid.0 + 1) }
     ensures found { IfSome result (λ found. content_of found ≡ field_among cell.now.value.objects (name_of at) field) }
@@ -120,6 +121,7 @@ fn own_field(cell: &HeapCell, at: Link, field: u32) -> Option<Stored>
 
 /// Whether the object has the field, where its look-up finds that. Every reference stands in a field that is there, and every number
 /// but 0: so a 0 alone asks for the number of fields.
+#[inline(always)]
 fn is_there(cell: &HeapCell, at: Link, field: u32, found: Stored) -> bool
     requires { content_of found ≡ field_among cell.now.value.objects (name_of at) field }
     ensures { result ≡ not (nat_le (field_count_among cell.now.value.objects (name_of at)) field) }
@@ -132,6 +134,7 @@ fn is_there(cell: &HeapCell, at: Link, field: u32, found: Stored) -> bool
 }
 
 /// The answer to an access to the field of the object, which is the process's own, and whose look-up finds that.
+#[inline(always)]
 fn field_answer(
     cell: &HeapCell,
     at: Link,
@@ -167,6 +170,7 @@ fn loaded_if(test: bool, value: Option<Name>) -> Option<Reply>
 
 /// The answer to a load from the field of the object, which is the process's own, and whose look-up finds that, where the result
 /// register held `old`.
+#[inline(always)]
 fn load_answer(
     cell: &HeapCell,
     at: Link,
@@ -198,6 +202,7 @@ fn is_refusal(reply: Reply) -> bool
 }
 
 /// The answer to an access to a field that holds that, if it is there and a reference, where the access is answered so; else the fault.
+#[inline(always)]
 fn ref_answer(found: Option<Stored>, answer: Option<Reply>) -> Option<Reply>
     ensures { result ≡ ref_answer (option_map content_of found) answer }
 {
@@ -210,6 +215,7 @@ fn ref_answer(found: Option<Stored>, answer: Option<Reply>) -> Option<Reply>
 }
 
 /// The same of an integer.
+#[inline(always)]
 fn int_answer(found: Option<Stored>, answer: Option<Reply>) -> Option<Reply>
     ensures { result ≡ int_answer (option_map content_of found) answer }
 {
@@ -281,6 +287,7 @@ fn put(cell: &mut HeapCell, base: Reg, field: u32, number: u64) -> Option<Reply>
 }
 
 /// The number that a field holds; 0 where there is no such field, or it is a reference.
+#[inline(always)]
 fn number_found(found: Option<Stored>) -> u64
     ensures { result ≡ number_found (option_map content_of found) }
 {

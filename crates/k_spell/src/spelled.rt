@@ -13,6 +13,7 @@ fn is_number(number: u64) -> bool
 }
 
 /// Whether a line of a trace can have the operation: its field is below 16, and a maximum that it sets below 2^40. Constant time.
+#[inline(always)]
 pub fn is_spelled(op: &Op) -> bool
     ensures { result ≡ is_spelled op.now }
 {
