@@ -7,7 +7,7 @@ ghost use Rattle.k_areas.specs.k_types.Names.{name_among, name_of};
 ghost use Rattle.k_areas.specs.k_types.Numbers.{numbers_below};
 ghost use Rattle.k_areas.specs.k_types.Owners.{object_bytes};
 ghost use Rattle.k_areas.specs.k_types.Replies.{is_ref, number_in, reference};
-ghost use Rattle.k_areas.specs.k_types.State.{Holds, Refers, has};
+ghost use Rattle.k_areas.specs.k_types.State.{Holds, Refers, field_kind, has};
 ghost use Rattle.k_areas.specs.k_types.Totals.{total};
 ghost use Rattle.k_areas.specs.k_types.Types.{object_size};
 ghost use Rattle.k_areas.specs.k_types.declared.names.CellPhase.TheVariants.{Begun, Idle, Marked};
@@ -30,6 +30,7 @@ use k_areas::{
     Body, Bound, CellPhase, ExitTable, Link, Listener, Name, NoMemory, Nobody, Seg, Segment,
     Stored, Swept, TypeId,
 };
+use k_types::Field;
 use std::alloc::Global;
 use std::marker::Model;
 use std::mem::swap;
@@ -248,24 +249,24 @@ impl Holdings {
         self.area.write_int_in(at, field, value);
     }
 
-    /// Stores a reference, or null, where the object has the field and that is a reference, and answers what the field held; none where there
-    /// is no such field. It asks no write barrier, and adds no exit item: both are the caller's. Constant time, and no memory.
-    pub fn store(&mut self, at: Link, field: u32, value: Option<Link>) -> Option<Stored>
+    /// Stores a reference, or null, where the object has the field and that is a reference, and answers the field's kind; none where there is no
+    /// such field. It asks no write barrier, and adds no exit item: both are the caller's. Constant time, and no memory.
+    pub fn store(&mut self, at: Link, field: u32, value: Option<Link>) -> Option<Field>
         requires idle { self.old.value.collection ≡ Idle }
-        ensures found { option_map content_of result ≡ found_among self.old.value.objects (name_of at) field }
+        ensures kind { result ≡ option_map field_kind (found_among self.old.value.objects (name_of at) field) }
         ensures stored { self.new ≡ record self.old { value = with_stored (name_of at) field (option_map name_of value) self.old.value } }
     {
         let name = at.name();
-        let found = self.area.store_in(at, field, value);
+        let kind = self.area.store_in(at, field, value);
         self.carried.whole = still_whole(self.carried.whole, self.carried.bound, name);
-        found
+        kind
     }
 
-    /// Puts a number where the object has the field and that is an integer, and answers what the field held; none where there is no such
-    /// field. Constant time, and no memory.
-    pub fn put(&mut self, at: Link, field: u32, value: u64) -> Option<Stored>
+    /// Puts a number where the object has the field and that is an integer, and answers the field's kind; none where there is no such field.
+    /// Constant time, and no memory.
+    pub fn put(&mut self, at: Link, field: u32, value: u64) -> Option<Field>
         requires idle { self.old.value.collection ≡ Idle }
-        ensures found { option_map content_of result ≡ found_among self.old.value.objects (name_of at) field }
+        ensures kind { result ≡ option_map field_kind (found_among self.old.value.objects (name_of at) field) }
         ensures put { self.new ≡ record self.old { value = with_put (name_of at) field value self.old.value } }
     {
         self.area.put_in(at, field, value)

@@ -1,7 +1,7 @@
 //! The segments of a heap, whose roots are noted first and made gray later.
 ghost use Rattle.std.specs.Prelude.{◌≡◌, ◌≢◌, ◌+◌, ◌<◌, ◌^◌, ◌↔◌, ℕ, ◌++◌, ◌∷◌, [], IfNone, IfOk, IfSome, IsFalse, IsTrue, None, Some, is_some, length, option_map, slice_get, slice_index_or, ◌≤◌};
 ghost use Rattle.k_areas.specs.k_types.Names.{name_among, name_eq, name_of};
-ghost use Rattle.k_areas.specs.k_types.State.{Holds, Refers};
+ghost use Rattle.k_areas.specs.k_types.State.{Holds, Refers, field_kind};
 ghost use Rattle.k_areas.specs.k_types.declared.names.Name.{Name as Named};
 ghost use Rattle.k_areas.specs.k_space.Areas.{HasDistinct, black_at, gray_at, grayed, is_foreign, marked_at, row_of_name, segment_at, unmarked};
 ghost use Rattle.k_areas.specs.k_space.Objects.{content_of};
@@ -22,6 +22,7 @@ use k_areas::{
     Area, Body, Bound, ExitTable, Link, Listener, Name, NoMemory, Seg, Segment, Stored, Swept,
     TypeId, clear, mark_kept, root, sweep_telling,
 };
+use k_types::Field;
 use std::alloc::Global;
 use std::marker::Model;
 use std::mem::{replace, swap};
@@ -271,21 +272,21 @@ impl RootedArea {
         write_int_in(&mut self.area, at, field, value);
     }
 
-    /// Stores the reference where the field is there and a reference, and answers what the field held; none where there is no such field.
-    pub(crate) fn store_in(&mut self, at: Link, field: u32, value: Option<Link>) -> Option<Stored>
+    /// Stores the reference where the field is there and a reference, and answers the field's kind; none where there is no such field.
+    pub(crate) fn store_in(&mut self, at: Link, field: u32, value: Option<Link>) -> Option<Field>
         requires { HasDistinct self.old.segments }
-        ensures found { option_map content_of result ≡ slice_get (row_fields (row_of_name self.old.segments (name_of at))) field }
-        ensures stored { IsWrittenIf (holds_ref (option_map content_of result)) self.old self.new (name_of at) field (Refers (option_map name_of value)) }
+        ensures kind { result ≡ option_map field_kind (slice_get (row_fields (row_of_name self.old.segments (name_of at))) field) }
+        ensures stored { IsWrittenIf (holds_ref (slice_get (row_fields (row_of_name self.old.segments (name_of at))) field)) self.old self.new (name_of at) field (Refers (option_map name_of value)) }
     {
         settle(&mut self.area, &mut self.noted, &mut self.all_noted);
         store_in(&mut self.area, at, field, value)
     }
 
-    /// Puts the number where the field is there and an integer, and answers what the field held; none where there is no such field.
-    pub(crate) fn put_in(&mut self, at: Link, field: u32, value: u64) -> Option<Stored>
+    /// Puts the number where the field is there and an integer, and answers the field's kind; none where there is no such field.
+    pub(crate) fn put_in(&mut self, at: Link, field: u32, value: u64) -> Option<Field>
         requires { HasDistinct self.old.segments }
-        ensures found { option_map content_of result ≡ slice_get (row_fields (row_of_name self.old.segments (name_of at))) field }
-        ensures put { IsWrittenIf (holds_int (option_map content_of result)) self.old self.new (name_of at) field (Holds value) }
+        ensures kind { result ≡ option_map field_kind (slice_get (row_fields (row_of_name self.old.segments (name_of at))) field) }
+        ensures put { IsWrittenIf (holds_int (slice_get (row_fields (row_of_name self.old.segments (name_of at))) field)) self.old self.new (name_of at) field (Holds value) }
     {
         settle(&mut self.area, &mut self.noted, &mut self.all_noted);
         put_in(&mut self.area, at, field, value)

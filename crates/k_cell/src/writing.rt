@@ -1,13 +1,13 @@
 //! Changes of one segment of an area.
 ghost use Rattle.std.specs.Prelude.{◌≡◌, option_map, slice_get};
 ghost use Rattle.k_areas.specs.k_types.Names.{name_of};
-ghost use Rattle.k_areas.specs.k_types.State.{Holds, Refers};
+ghost use Rattle.k_areas.specs.k_types.State.{Holds, Refers, field_kind};
 ghost use Rattle.k_areas.specs.k_space.Areas.{HasDistinct, row_of_name};
-ghost use Rattle.k_areas.specs.k_space.Objects.{content_of};
 ghost use Rattle.k_cell.specs.Looks.{holds_int, holds_ref, row_fields};
 ghost use Rattle.k_cell.specs.Placed.{CanPlace, IsIntAt, IsPlacedIn, IsRefAt, IsWrittenIf, IsWrittenIn};
 
-use k_areas::{Area, Body, Link, Seg, Stored};
+use k_areas::{Area, Body, Link, Seg};
+use k_types::Field;
 
 /// Puts an object into the segment of that number.
 pub(crate) fn place_in(area: &mut Area, seg: Seg, body: Body) -> Link
@@ -40,46 +40,38 @@ pub(crate) fn write_ref_in(area: &mut Area, at: Link, field: u32, value: Option<
     segment.write_ref(slot, field, value);
 }
 
-/// Stores the reference where the object has the field and that is a reference, and answers what the field held; none where there is no such
+/// Stores the reference where the object has the field and that is a reference, and answers the field's kind; none where there is no such
 /// field. The object is looked up once.
-pub(crate) fn store_in(area: &mut Area, at: Link, field: u32, value: Option<Link>) -> Option<Stored>
+pub(crate) fn store_in(area: &mut Area, at: Link, field: u32, value: Option<Link>) -> Option<Field>
     requires { HasDistinct area.old.segments }
-    ensures found { option_map content_of result ≡ slice_get (row_fields (row_of_name area.old.segments (name_of at))) field }
-    ensures stored { IsWrittenIf (holds_ref (option_map content_of result)) area.old area.new (name_of at) field (Refers (option_map name_of value)) }
+    ensures kind { result ≡ option_map field_kind (slice_get (row_fields (row_of_name area.old.segments (name_of at))) field) }
+    ensures stored { IsWrittenIf (holds_ref (slice_get (row_fields (row_of_name area.old.segments (name_of at))) field)) area.old area.new (name_of at) field (Refers (option_map name_of value)) }
 {
     let segment = area.get_mut(at.seg)?;
     let slot = segment.find_near(at.serial, at.slot)?;
-    if field >= segment.field_count(slot) {
-        return None;
+    let kind = segment.kind_of(slot, field)?;
+    match kind {
+        Field::Ref => segment.write_ref(slot, field, value),
+        Field::Int => {}
     }
-    let found = segment.stored(slot, field);
-    match found {
-        Stored::Holds(_) => {}
-        Stored::Null => segment.write_ref(slot, field, value),
-        Stored::Refers(_) => segment.write_ref(slot, field, value),
-    }
-    Some(found)
+    Some(kind)
 }
 
-/// Puts the number where the object has the field and that is an integer, and answers what the field held; none where there is no such
+/// Puts the number where the object has the field and that is an integer, and answers the field's kind; none where there is no such
 /// field. The object is looked up once.
-pub(crate) fn put_in(area: &mut Area, at: Link, field: u32, value: u64) -> Option<Stored>
+pub(crate) fn put_in(area: &mut Area, at: Link, field: u32, value: u64) -> Option<Field>
     requires { HasDistinct area.old.segments }
-    ensures found { option_map content_of result ≡ slice_get (row_fields (row_of_name area.old.segments (name_of at))) field }
-    ensures put { IsWrittenIf (holds_int (option_map content_of result)) area.old area.new (name_of at) field (Holds value) }
+    ensures kind { result ≡ option_map field_kind (slice_get (row_fields (row_of_name area.old.segments (name_of at))) field) }
+    ensures put { IsWrittenIf (holds_int (slice_get (row_fields (row_of_name area.old.segments (name_of at))) field)) area.old area.new (name_of at) field (Holds value) }
 {
     let segment = area.get_mut(at.seg)?;
     let slot = segment.find_near(at.serial, at.slot)?;
-    if field >= segment.field_count(slot) {
-        return None;
+    let kind = segment.kind_of(slot, field)?;
+    match kind {
+        Field::Ref => {}
+        Field::Int => segment.write_int(slot, field, value),
     }
-    let found = segment.stored(slot, field);
-    match found {
-        Stored::Holds(_) => segment.write_int(slot, field, value),
-        Stored::Null => {}
-        Stored::Refers(_) => {}
-    }
-    Some(found)
+    Some(kind)
 }
 
 /// Writes an integer field of an object.

@@ -4,11 +4,10 @@ ghost use Rattle.std.specs.List.{list_any};
 ghost use Rattle.k_types.specs.Names.{name_among, name_of};
 ghost use Rattle.k_types.specs.Owners.{object_bytes};
 ghost use Rattle.k_types.specs.Replies.{is_ref};
-ghost use Rattle.k_types.specs.State.{Refers};
+ghost use Rattle.k_types.specs.State.{Refers, field_kind};
 ghost use Rattle.k_types.specs.Totals.{total};
 ghost use Rattle.k_types.specs.declared.names.CellPhase.TheVariants.{Begun, Idle, Marked};
 ghost use Rattle.k_types.specs.declared.names.Name.{Name as Named};
-ghost use Rattle.k_cell.specs.k_space.Objects.{content_of};
 ghost use Rattle.k_cell.specs.Marking.{begun};
 ghost use Rattle.k_cell.specs.Ending.{freed_bytes, freed_objects};
 ghost use Rattle.k_cell.specs.Looks.{field_among, found_among};
@@ -18,8 +17,8 @@ ghost use Rattle.k_cell.specs.Holdings.{HasGivenSegment, HasObjectRoom};
 ghost use Rattle.k_heap.specs.Heaps.{holdings_of, own_segment};
 
 use crate::heap::HeapCell;
-use k_cell::{Body, Listener, Segment, Stored, Swept};
-use k_types::{Link, Name, Seg};
+use k_cell::{Body, Listener, Segment, Swept};
+use k_types::{Field, Link, Name, Seg};
 
 impl HeapCell {
     /// Puts an object into the process's heap, and gives its name. No collection is open. Constant time, and no memory.
@@ -44,21 +43,21 @@ impl HeapCell {
         self.holdings.write_ref(at, field, value);
     }
 
-    /// Stores a reference, or null, where the object has the field and that is a reference, and answers what the field held; none where there
-    /// is no such field. It asks no write barrier, and adds no exit item: both are the caller's. Constant time, and no memory.
-    pub fn store(&mut self, at: Link, field: u32, value: Option<Link>) -> Option<Stored>
+    /// Stores a reference, or null, where the object has the field and that is a reference, and answers the field's kind; none where there is no
+    /// such field. It asks no write barrier, and adds no exit item: both are the caller's. Constant time, and no memory.
+    pub fn store(&mut self, at: Link, field: u32, value: Option<Link>) -> Option<Field>
         requires idle { self.old.value.collection ≡ Idle }
-        ensures found { option_map content_of result ≡ found_among self.old.value.objects (name_of at) field }
+        ensures kind { result ≡ option_map field_kind (found_among self.old.value.objects (name_of at) field) }
         ensures stored { self.new ≡ record self.old { value = with_stored (name_of at) field (option_map name_of value) self.old.value } }
     {
         self.holdings.store(at, field, value)
     }
 
-    /// Puts a number where the object has the field and that is an integer, and answers what the field held; none where there is no such
-    /// field. Constant time, and no memory.
-    pub fn put(&mut self, at: Link, field: u32, value: u64) -> Option<Stored>
+    /// Puts a number where the object has the field and that is an integer, and answers the field's kind; none where there is no such field.
+    /// Constant time, and no memory.
+    pub fn put(&mut self, at: Link, field: u32, value: u64) -> Option<Field>
         requires idle { self.old.value.collection ≡ Idle }
-        ensures found { option_map content_of result ≡ found_among self.old.value.objects (name_of at) field }
+        ensures kind { result ≡ option_map field_kind (found_among self.old.value.objects (name_of at) field) }
         ensures put { self.new ≡ record self.old { value = with_put (name_of at) field value self.old.value } }
     {
         self.holdings.put(at, field, value)

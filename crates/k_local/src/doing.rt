@@ -1,11 +1,11 @@
 //! An operation done inside the process's own heap.
-ghost use Rattle.std.specs.Prelude.{◌≡◌, ◌<◌, ◌-◌, ◌^◌, ◌==◌, ◌+◌, ◌&&◌, not, nat_le, IfNone, IfSome, IsFalse, IsTrue, Some, None, is_some, length, option_map, if◌then◌else◌};
+ghost use Rattle.std.specs.Prelude.{◌≡◌, ◌<◌, ◌-◌, ◌^◌, ◌==◌, ◌+◌, ◌&&◌, not, nat_le, IfNone, IfSome, IsFalse, IsTrue, Option, Some, None, is_some, length, option_map, if◌then◌else◌};
 ghost use Rattle.k_types.specs.declared.names.CellPhase.TheVariants.{Idle};
 ghost use Rattle.k_types.specs.Cells.{BookPart, Cell, CellPart};
 ghost use Rattle.k_types.specs.Local.{is_own};
 ghost use Rattle.k_types.specs.Names.{name_of};
 ghost use Rattle.k_types.specs.Replies.{is_ref, number_in, reference};
-ghost use Rattle.k_types.specs.State.{Holds, Refers};
+ghost use Rattle.k_types.specs.State.{Content, Holds, Refers, field_kind};
 ghost use Rattle.k_types.specs.declared.event.Reply.TheVariants.{Done, Loaded};
 ghost use Rattle.k_types.specs.declared.names.Name.{Name as Named};
 ghost use Rattle.k_frame.specs.PartUpdates.{done_in, held_in};
@@ -20,7 +20,7 @@ ghost use Rattle.k_local.specs.Locals.{HasRegisters, IsChanged, IsMachines, Leav
 
 use k_heap::HeapCell;
 use k_space::Stored;
-use k_types::{Event, Fault, Link, Name, Op, Pid, Reg, Reply};
+use k_types::{Event, Fault, Field, Link, Name, Op, Pid, Reg, Reply};
 
 /// Does the operation of the process where it needs that heap alone: its event then is the newest that the journal lacks, and
 /// reply and cell are those of the machine, and the machine's event leaves the book's part. `None` changes nothing, and comes exactly
@@ -227,6 +227,30 @@ fn int_answer(found: Option<Stored>, answer: Option<Reply>) -> Option<Reply>
     }
 }
 
+/// The answer to a store into a field of that kind, where the reference may be stored; none where there is no such field.
+#[inline(always)]
+fn after_store(kind: Option<Field>) -> Option<Reply>
+    ensures { (found : Option Content) → kind ≡ option_map field_kind found → result ≡ ref_answer found (Some Done) }
+{
+    match kind {
+        None => Some(Reply::Refused(Fault::NoField)),
+        Some(Field::Ref) => Some(Reply::Done),
+        Some(Field::Int) => Some(Reply::Refused(Fault::WrongKind)),
+    }
+}
+
+/// The answer to a put.
+#[inline(always)]
+fn after_put(kind: Option<Field>) -> Option<Reply>
+    ensures { (found : Option Content) → kind ≡ option_map field_kind found → result ≡ int_answer found (Some Done) }
+{
+    match kind {
+        None => Some(Reply::Refused(Fault::NoField)),
+        Some(Field::Ref) => Some(Reply::Refused(Fault::WrongKind)),
+        Some(Field::Int) => Some(Reply::Done),
+    }
+}
+
 /// Stores what the register holds, and answers; `None` where that is not local.
 #[inline(always)]
 fn store(cell: &mut HeapCell, base: Reg, field: u32, value: Reg) -> Option<Reply>
@@ -246,7 +270,7 @@ fn store(cell: &mut HeapCell, base: Reg, field: u32, value: Reg) -> Option<Reply
     if !is_own(cell.pid(), stored) {
         return ref_answer(cell.found(at, field), None);
     }
-    ref_answer(cell.store(at, field, stored), Some(Reply::Done))
+    after_store(cell.store(at, field, stored))
 }
 
 /// Loads into the register, and answers; `None` where that is not local.
@@ -283,7 +307,7 @@ fn put(cell: &mut HeapCell, base: Reg, field: u32, number: u64) -> Option<Reply>
     if !lies_in(cell.pid(), at) {
         return None;
     }
-    int_answer(cell.put(at, field, number), Some(Reply::Done))
+    after_put(cell.put(at, field, number))
 }
 
 /// The number that a field holds; 0 where there is no such field, or it is a reference.

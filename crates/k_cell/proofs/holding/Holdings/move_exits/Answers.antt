@@ -1,4 +1,4 @@
-use Rattle.std.proofs.Common.{◌≡◌, List, length, sym, ap, subst, ◌∙◌, arith}
+use Rattle.std.proofs.Common.{List, length, sym, ap, subst, arith}
 use Rattle.std.proofs.lemmas.List.{length-map}
 use Rattle.k_areas.specs.k_exit.Exits.{ExitList, ExitRow}
 use Rattle.k_cell.specs.Carried.{IsCarried}

@@ -1,9 +1,8 @@
 use Rattle.std.proofs.Common.{◌≡◌, option_map, slice_get, sym, ap, subst, ◌∙◌}
 use Rattle.std.proofs.lemmas.Bool.{false≢true}
 use Rattle.k_areas.specs.k_types.Names.{name_of}
-use Rattle.k_areas.specs.k_types.State.{Holds}
+use Rattle.k_areas.specs.k_types.State.{Holds, field_kind}
 use Rattle.k_areas.specs.k_space.Areas.{AreaValue, HasDistinct, row_of_name}
-use Rattle.k_areas.specs.k_space.Objects.{content_of}
 use Rattle.k_cell.specs.Looks.{holds_int, row_fields}
 use Rattle.k_cell.specs.Placed.{IsWrittenIf}
 use Rattle.k_cell.proofs.Rooted.{distinct_inside}
@@ -20,12 +19,12 @@ put_in-requires c =
     let seen : c.settle.new.area ≡ c.args.self.now = c.settle.ensures.area ∙ c.self.view_is in
     subst (λ (x : AreaValue). HasDistinct x.segments) (sym seen) c.requires
 
-pub returns-clause-found : goal.returns-clause-found
-returns-clause-found c =
+pub returns-clause-kind : goal.returns-clause-kind
+returns-clause-kind c =
     let seen : c.settle.new.area ≡ c.args.self.now = c.settle.ensures.area ∙ c.self.view_is in
-    c.put_in.ensures.found ∙ ap (λ (x : AreaValue). slice_get (row_fields (row_of_name x.segments (name_of c.args.at))) c.args.field) seen
+    c.put_in.ensures.kind ∙ ap (λ (x : AreaValue). option_map field_kind (slice_get (row_fields (row_of_name x.segments (name_of c.args.at))) c.args.field)) seen
 
 pub returns-clause-put : goal.returns-clause-put
 returns-clause-put c =
     let seen : c.settle.new.area ≡ c.args.self.now = c.settle.ensures.area ∙ c.self.view_is in
-    rw c.settle.ensures.none (subst (λ (x : AreaValue). IsWrittenIf (holds_int (option_map content_of c.put_in.result)) x c.put_in.new.area (name_of c.args.at) c.args.field (Holds c.args.value)) seen c.put_in.ensures.put)
+    rw c.settle.ensures.none (subst (λ (x : AreaValue). IsWrittenIf (holds_int (slice_get (row_fields (row_of_name x.segments (name_of c.args.at))) c.args.field)) x c.put_in.new.area (name_of c.args.at) c.args.field (Holds c.args.value)) seen c.put_in.ensures.put)

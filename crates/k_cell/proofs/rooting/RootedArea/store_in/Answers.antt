@@ -1,9 +1,8 @@
 use Rattle.std.proofs.Common.{◌≡◌, option_map, slice_get, sym, ap, subst, ◌∙◌}
 use Rattle.std.proofs.lemmas.Bool.{false≢true}
 use Rattle.k_areas.specs.k_types.Names.{name_of}
-use Rattle.k_areas.specs.k_types.State.{Refers}
+use Rattle.k_areas.specs.k_types.State.{Refers, field_kind}
 use Rattle.k_areas.specs.k_space.Areas.{AreaValue, HasDistinct, row_of_name}
-use Rattle.k_areas.specs.k_space.Objects.{content_of}
 use Rattle.k_cell.specs.Looks.{holds_ref, row_fields}
 use Rattle.k_cell.specs.Placed.{IsWrittenIf}
 use Rattle.k_cell.proofs.Rooted.{distinct_inside}
@@ -20,12 +19,12 @@ store_in-requires c =
     let seen : c.settle.new.area ≡ c.args.self.now = c.settle.ensures.area ∙ c.self.view_is in
     subst (λ (x : AreaValue). HasDistinct x.segments) (sym seen) c.requires
 
-pub returns-clause-found : goal.returns-clause-found
-returns-clause-found c =
+pub returns-clause-kind : goal.returns-clause-kind
+returns-clause-kind c =
     let seen : c.settle.new.area ≡ c.args.self.now = c.settle.ensures.area ∙ c.self.view_is in
-    c.store_in.ensures.found ∙ ap (λ (x : AreaValue). slice_get (row_fields (row_of_name x.segments (name_of c.args.at))) c.args.field) seen
+    c.store_in.ensures.kind ∙ ap (λ (x : AreaValue). option_map field_kind (slice_get (row_fields (row_of_name x.segments (name_of c.args.at))) c.args.field)) seen
 
 pub returns-clause-stored : goal.returns-clause-stored
 returns-clause-stored c =
     let seen : c.settle.new.area ≡ c.args.self.now = c.settle.ensures.area ∙ c.self.view_is in
-    rw c.settle.ensures.none (subst (λ (x : AreaValue). IsWrittenIf (holds_ref (option_map content_of c.store_in.result)) x c.store_in.new.area (name_of c.args.at) c.args.field (Refers (option_map name_of c.args.value))) seen c.store_in.ensures.stored)
+    rw c.settle.ensures.none (subst (λ (x : AreaValue). IsWrittenIf (holds_ref (slice_get (row_fields (row_of_name x.segments (name_of c.args.at))) c.args.field)) x c.store_in.new.area (name_of c.args.at) c.args.field (Refers (option_map name_of c.args.value))) seen c.store_in.ensures.stored)
