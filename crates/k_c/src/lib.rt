@@ -7,6 +7,8 @@ mod parts;
 ghost use Rattle.std.specs.Prelude.{◌≡◌};
 ghost use Rattle.std.specs.Borrow.{full_share, sem};
 ghost use Rattle.std.specs.Ptr.{lies_at, room_at};
+ghost use prog.Memory.{capped, size};
+ghost use denote.Param.{layout};
 ghost use Rattle.k_embed.specs.contracts.serving.Slot.{the_row};
 ghost use Rattle.k_embed.specs.declared.serving.Slot.{Slot};
 ghost use Rattle.k_embed.specs.Asked.{AreRoomsFor};
@@ -28,7 +30,9 @@ pub struct KaffeHost {
 
 /// How many bytes C has to give for a host.
 #[unsafe(no_mangle)]
-pub extern "C" fn kaffe_size() -> usize {
+pub extern "C" fn kaffe_size() -> usize
+    ensures { result ≡ capped (size (layout the_row)) }
+{
     size_of::<Slot>()
 }
 

@@ -3,6 +3,8 @@
 ghost use Rattle.std.specs.Prelude.{◌≡◌};
 ghost use Rattle.std.specs.Borrow.{full_share, sem};
 ghost use Rattle.std.specs.Ptr.{lies_at, room_at};
+ghost use prog.Memory.{capped, size};
+ghost use denote.Param.{layout};
 ghost use Rattle.k_slots.specs.contracts.slots.PartSlot.{the_row};
 ghost use Rattle.k_slots.specs.declared.slots.PartSlot.{PartSlot};
 ghost use Rattle.k_slots.specs.Lending.{CanLendFour, CanLendThree, CanLendTwo};
@@ -21,7 +23,9 @@ pub struct KaffePart {
 
 /// How many bytes C has to give for a part, and for the row of all parts.
 #[unsafe(no_mangle)]
-pub extern "C" fn kaffe_part_size() -> usize {
+pub extern "C" fn kaffe_part_size() -> usize
+    ensures { result ≡ capped (size (layout the_row)) }
+{
     size_of::<PartSlot>()
 }
 
