@@ -1,5 +1,5 @@
 //! The journal of the book.
-ghost use Rattle.std.specs.Prelude.{◌≡◌, ◌≢◌, ◌+◌, ◌<◌, ◌≤◌, ◌^◌, Some, length, slice_get};
+ghost use Rattle.std.specs.Prelude.{◌≡◌, ◌≢◌, ◌+◌, ◌<◌, ◌≤◌, ◌^◌, ◌++◌, Some, length, slice_get};
 ghost use Rattle.k_types.specs.Complete.{IsPrefixOf};
 ghost use Rattle.k_agree.specs.k_tie.Rule.{total_of};
 ghost use Rattle.k_journal.specs.Kept.{with_event, with_events, with_touch, with_touches};
@@ -44,10 +44,11 @@ impl Book {
         self.journal.append(event);
     }
 
-    /// Adds these events at the end of the journal, in order, as `Journal::append_all` does: each of them costs a few instructions, and only
-    /// those that are kept are copied.
+    /// Adds these events at the end of the journal, in order, none of which makes an object or frees any. Only those that are kept are
+    /// copied. Constant time where none is.
     pub fn append_all(&mut self, events: &[Event])
-        requires { length self.old.journal.list + length events.now ≤ self.old.event_room }
+        requires room { length self.old.journal.list + length events.now ≤ self.old.event_room }
+        requires objects { objects_told (self.old.journal.list ++ events.now) ≡ objects_told self.old.journal.list }
         ensures { self.new ≡ record self.old { journal = with_events events.now self.old.journal } }
     {
         self.journal.append_all(events);

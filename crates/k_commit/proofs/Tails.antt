@@ -2,11 +2,16 @@
 use Rattle.std.proofs.Common.{◌≡◌, ℕ, zero, suc, ◌+◌, ◌≤◌, refl, sym, ap, ap₂, subst, ◌∙◌, List, [], ◌∷◌, ◌++◌, length, replicate, arith}
 use Rattle.std.proofs.lemmas.List.{append_assoc, append-nil}
 use Rattle.k_types.specs.declared.event.Event.{Event}
+use Rattle.k_types.specs.State.{opening}
+use Rattle.k_types.specs.Steps.{state_after}
 use Rattle.k_types.specs.Trace.{Trace}
+use Rattle.k_frame.proofs.Histories.{legal_rest}
 use Rattle.k_tie.specs.Values.{JournalValue, NoteValue}
 use Rattle.k_book.specs.k_agree.Committing.{journal_after, note_after}
 use Rattle.k_book.specs.k_agree.Meeting.{met_note}
 use Rattle.k_book.specs.k_agree.Publishing.{PublishesAll, journal_after_all, note_after_all}
+use Rattle.k_book.specs.Objects.{objects_told}
+use Rattle.k_book.proofs.Counted.{local_objects, told_append_all}
 use Rattle.k_book.proofs.Published.{publishes_all}
 use Rattle.k_book.specs.Books.{BookRecord}
 use Rattle.k_heap.specs.Heaps.{HeapRecord}
@@ -70,6 +75,13 @@ module _ (trace : Trace) (old : HeapRecord) (before : BookRecord) (can : CanPubl
   met_room =
       subst (λ (w : HeapRecord). length b.journal.list + length w.value.tail ≤ b.event_room) (sym met.cell_is)
       (subst (λ (k : BookRecord). length k.journal.list + length events ≤ k.event_room) (sym met.book_is) (can.room met.told.fits))
+
+  -- the events make no object and free none
+  pub met_objects : objects_told (b.journal.list ++ c.value.tail) ≡ objects_told b.journal.list
+  met_objects =
+      ap (λ (w : HeapRecord). objects_told (b.journal.list ++ w.value.tail)) met.cell_is ∙ told_append_all b.journal.list events
+      ∙ local_objects trace old.pid.0 (state_after trace old.note.list) (state_after trace old.note.list) events can.agrees.tail
+      (legal_rest trace (opening trace) old.note.list events can.agrees.legal) (objects_told b.journal.list)
 
   all : PublishesAll trace before.journal old.pid.0 note old.value before.value
   all = publishes_all trace before.journal old.pid.0 note old.value before.value met.told.shows.agrees can.book_agrees refl

@@ -1,5 +1,6 @@
 //! Events that are appended, with the cells that they touch.
-ghost use Rattle.std.specs.Prelude.{◌≡◌, ◌+◌, ◌<◌, ◌≤◌, [], ◌∷◌, length};
+ghost use Rattle.std.specs.Prelude.{◌≡◌, ◌+◌, ◌<◌, ◌≤◌, [], ◌∷◌, ◌++◌, length};
+ghost use Rattle.k_book.specs.Objects.{objects_told};
 ghost use Rattle.k_book.specs.k_agree.Committing.{journal_after, note_after};
 ghost use Rattle.k_book.specs.k_agree.Publishing.{journal_after_all, note_after_all};
 
@@ -23,11 +24,13 @@ pub fn append_heap(cell: &mut HeapCell, book: &mut Book, event: Event)
 }
 
 /// Appends the cell's unpublished events, each of which touches it; it has none afterwards. The cell has met the journal and then meets the
-/// longer one. Constant time but for a few instructions for each event, and no word is changed where there is none.
+/// longer one. They make no object and free none, so that these need not be counted. Constant time where the journal keeps no event, and no
+/// word is changed where the cell has none.
 pub(crate) fn append_tail(cell: &mut HeapCell, book: &mut Book)
     requires table { cell.old.note.table ≡ book.old.journal.table }
     requires met { cell.old.note.list ≡ book.old.journal.list }
     requires room { length book.old.journal.list + length cell.old.value.tail ≤ book.old.event_room }
+    requires objects { objects_told (book.old.journal.list ++ cell.old.value.tail) ≡ objects_told book.old.journal.list }
     ensures cell { cell.new ≡ record cell.old { note = note_after_all cell.old.value.tail cell.old.note; value = record cell.old.value { tail = [] } } }
     ensures book { book.new ≡ record book.old { journal = journal_after_all cell.old.value.tail cell.old.note.cell book.old.journal } }
 {

@@ -7,7 +7,7 @@ use crate::meeting::meet_heap;
 use k_book::Book;
 use k_heap::HeapCell;
 
-/// Appends the cell's unpublished events in order; it has none afterwards. It takes constant time and a few instructions for each of them.
+/// Appends the cell's unpublished events in order; it has none afterwards. Constant time where the journal keeps no event.
 pub fn publish(cell: &mut HeapCell, book: &mut Book)
     ghost trace: { Trace }
     requires { CanPublish trace cell.old book.old }

@@ -1,6 +1,5 @@
 -- How many objects the machine has after an event.
-use Rattle.std.proofs.Common.{◌≡◌, ◌⊎◌, inl, inr, ℕ, suc, ◌+◌, ◌-◌, ◌≤◌, true, false, cond, not, refl, sym, ap, ◌∙◌, subst, List, [], ◌∷◌, ◌++◌, length, Option, Some, None, arith, IsTrue, append-nil}
-use Rattle.std.proofs.lemmas.Bool.{false≢true}
+use Rattle.std.proofs.Common.{◌≡◌, ◌⊎◌, inl, inr, ℕ, suc, ◌+◌, ◌-◌, ◌≤◌, true, false, cond, not, refl, sym, ap, ◌∙◌, subst, List, [], ◌∷◌, ◌++◌, length, Option, Some, None, arith, append-nil}
 use Rattle.std.proofs.lemmas.List.Filters.{length-filter_both}
 use Rattle.k_types.specs.declared.event.Event.{Event}
 use Rattle.k_types.specs.declared.event.Event.TheVariants.{Absorbed, Closing, Done, Ended}
@@ -14,7 +13,6 @@ use Rattle.k_types.specs.declared.op.Op.TheVariants.{Freeze, KNew, Kill, New, Pu
 use Rattle.k_types.specs.Agree.{CellValue}
 use Rattle.k_types.specs.Cells.{Cell, ShownPart, part}
 use Rattle.k_types.specs.Effects.{after_absorbed, after_closing, after_end_of, after_ended, after_new, after_operation, effect, effect_unless, step, survives}
-use Rattle.k_types.specs.Local.{AreLocal, is_local}
 use Rattle.k_types.specs.Names.{heap_eq, name_lt}
 use Rattle.k_types.specs.Owners.{owner_of, user}
 use Rattle.k_types.specs.Replies.{answer, faults, first_fault, refused_or, reply_to}
@@ -30,6 +28,7 @@ use Rattle.k_frame.proofs.Rest.{freeze_rest, kill_rest}
 use Rattle.k_tie.specs.Values.{JournalValue, NoteValue}
 use Rattle.k_agree.specs.Agreement.{Agrees, Shows}
 use Rattle.k_book.specs.Objects.{gone_by, made_by, made_by_reply, objects_after, objects_from, objects_told}
+use Rattle.k_book.proofs.Counted.{local_objects, none_made}
 
 placed_length : (o : Object) (xs : List Object) → length (with_object o xs) ≡ length xs + 1
 placed_length o [] = refl
@@ -107,41 +106,19 @@ module _ (trace : Trace) where
   pub appended_counts : (history : List Event) (event : Event) → IsPossible trace (state_after trace history) event → objects_after trace (history ++ event ∷ []) + gone_by event ≡ objects_after trace history + made_by event
   appended_counts history event may = ap (λ (st : State). length st.objects + gone_by event) (state_next trace history event) ∙ event_counts (state_after trace history) event may
 
-  -- a local operation makes none
-  local_makes : (st : State) (p : ℕ) (op : Op) → IsTrue (is_local st p op) → is_allocation op ≡ false
-  unfolding is_local
-  local_makes st p (New r ty) l = absurd (false≢true l)
-  local_makes st p (KNew r ty) l = absurd (false≢true l)
-  local_makes st p (SNew r s ty) l = absurd (false≢true l)
-  local_makes st p _ l = refl
-
   pub makes_none : (st : State) (p : ℕ) (op : Op) (said : Reply) → is_allocation op ≡ false → said ≡ reply_to trace st p op → made_by_reply said ≡ 0
-  unfolding reply_to
-  makes_none st p op said none is = ap made_by_reply is ∙ go (first_fault (faults trace st p op))
-    where
-      go : (f : Option Fault) → made_by_reply (refused_or f (answer trace st p op)) ≡ 0
-      go None = answered st p op ∙ ap one_if none
-      go (Some f) = refl
-
-  -- the events of a process inside its heap, each local where it was done, make and free none wherever they are possible
-  inside_counts : (p : ℕ) (events : List Event) (st su : State) → AreLocal trace p st events → IsRun trace su events → length (run trace su events).objects ≡ length su.objects
-  inside_counts p [] st su local runs = refl
-  inside_counts p (Done pid op said ∷ events) st su local runs =
-      let here = ap (λ q. is_local st q op) local.0 ∙ local.1 in
-      let none = makes_none su pid.0 op said (local_makes st pid.0 op here) runs.0.replied in
-      let one = event_counts su (Done pid op said) runs.0 in
-      let rest = inside_counts p events (step trace st (Done pid op said)) (step trace su (Done pid op said)) local.2 runs.1 in
-      omega (arith, none, one, rest)
-  inside_counts p (Ended h a b c d ∷ events) st su local runs = absurd local
-  inside_counts p (Absorbed s ∷ events) st su local runs = absurd local
-  inside_counts p (Closing ∷ events) st su local runs = absurd local
+  makes_none st p op said none is = none_made trace st p op said (answered st p op ∙ ap one_if none) is
 
   -- the machine has as many objects once a process has published what it did inside its heap
   pub published_counts : (history : List Event) (pid : Pid) (note : NoteValue) (value : CellValue) → Agrees trace (User pid) note value → IsLegalHistory trace (history ++ value.tail) →
       objects_after trace (history ++ value.tail) ≡ objects_after trace history
   published_counts history pid note value agrees legal =
       ap (λ (st : State). length st.objects) (run_append trace (opening trace) history value.tail)
-      ∙ inside_counts pid.0 value.tail (state_after trace note.list) (state_after trace history) agrees.tail (legal_rest trace (opening trace) history value.tail legal)
+      ∙ told_from (state_after trace history) value.tail runs
+      ∙ local_objects trace pid.0 (state_after trace note.list) (state_after trace history) value.tail agrees.tail runs (objects_after trace history)
+    where
+      runs : IsRun trace (state_after trace history) value.tail
+      runs = legal_rest trace (opening trace) history value.tail legal
 
   -- a cell has no more objects than the machine
   pub shown_few : (st : State) (cell : Cell) (value : CellValue) → Shows trace st cell value → length value.objects ≤ length st.objects

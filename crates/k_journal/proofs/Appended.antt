@@ -7,18 +7,18 @@ use Rattle.circular_buffer.specs.Buffer.{Buffer, buffer, keep_last}
 use Rattle.k_types.specs.declared.event.Event.{Event}
 use Rattle.k_tie.specs.Values.{JournalValue}
 use Rattle.k_journal.specs.Kept.{AreKept, with_event, with_events}
-use Rattle.k_journal.specs.Objects.{objects_by, objects_from, objects_told}
-use Rattle.k_journal.proofs.Counted.{told_append_all}
+use Rattle.k_journal.specs.Objects.{objects_by, objects_told}
+use Rattle.k_journal.proofs.Counted.{told_append}
 use Rattle.k_journal.proofs.Lasting.{held_on}
 
 -- count, objects and the last events go on with them
 pub appended_all : (table : TableId) (journal later : JournalValue) (count objects more room kept : ℕ) (last now : Buffer Event) (events : List Event) → AreKept table journal count objects room kept last →
-    length journal.list + length events ≤ room → later ≡ with_events events journal → more ≡ objects_from objects events → now ≡ buffer (keep_last last.capacity (last.items ++ events)) last.capacity →
+    length journal.list + length events ≤ room → later ≡ with_events events journal → more ≡ objects_told (journal.list ++ events) → now ≡ buffer (keep_last last.capacity (last.items ++ events)) last.capacity →
     AreKept table later (count + length events) more room kept now
 appended_all table journal later count objects more room kept last now events was left is counts keeps = record {
   same = ap (λ (j : JournalValue). j.table) is ∙ was.same;
   counted = let counted = was.counted in omega (arith, longer, counted);
-  objects_counted = counts ∙ ap (λ n. objects_from n events) was.objects_counted ∙ sym (told_append_all journal.list events) ∙ sym (ap (λ (j : JournalValue). objects_told j.list) is);
+  objects_counted = counts ∙ sym (ap (λ (j : JournalValue). objects_told j.list) is);
   within = omega (arith, longer, left);
   few = was.few;
   gone = was.gone + (length last.items + length events - last.capacity);
@@ -48,4 +48,5 @@ appended_all table journal later count objects more room kept last now events wa
 pub appended : (table : TableId) (journal later : JournalValue) (count objects more room kept : ℕ) (last now : Buffer Event) (event : Event) → AreKept table journal count objects room kept last → length journal.list < room →
     later ≡ with_event event journal → more ≡ objects_by objects event → now ≡ buffer (keep_last last.capacity (last.items ++ event ∷ [])) last.capacity → AreKept table later (count + 1) more room kept now
 appended table journal later count objects more room kept last now event was left is counts keeps =
-    appended_all table journal later count objects more room kept last now (event ∷ []) was (omega arith) is counts keeps
+    appended_all table journal later count objects more room kept last now (event ∷ []) was (omega arith) is
+    (counts ∙ ap (λ n. objects_by n event) was.objects_counted ∙ sym (told_append journal.list event)) keeps

@@ -1,9 +1,9 @@
 //! The events with their seat.
-ghost use Rattle.std.specs.Prelude.{◌≡◌, ◌≢◌, ◌+◌, ◌-◌, ◌<◌, ◌≤◌, ◌^◌, [], Some, IfOk, length, slice_get};
+ghost use Rattle.std.specs.Prelude.{◌≡◌, ◌≢◌, ◌+◌, ◌-◌, ◌<◌, ◌≤◌, ◌^◌, [], ◌++◌, Some, IfOk, length, slice_get};
 ghost use Rattle.k_types.specs.Complete.{IsPrefixOf};
 ghost use Rattle.k_tie.specs.Rule.{total_of};
 ghost use Rattle.k_journal.specs.Kept.{with_event, with_events, with_touch, with_touches};
-ghost use Rattle.k_journal.specs.Objects.{objects_by, objects_from, objects_told};
+ghost use Rattle.k_journal.specs.Objects.{objects_by, objects_told};
 
 use circular_buffer::HeapCircularBuffer;
 use k_io::NoMemory;
@@ -25,18 +25,6 @@ fn objects_by(objects: u64, event: &Event) -> u64
         Event::Ended { freed_objects, .. } => objects.saturating_sub(u64::from(freed_objects)),
         _ => objects,
     }
-}
-
-/// How many objects there are after these events, where there were so many before them. A few instructions for each.
-fn objects_by_all(objects: u64, events: &[Event]) -> u64
-    requires { objects + length events.now < 2 ^ 64 }
-    ensures { result ≡ objects_from objects events.now }
-{
-    let mut objects = objects;
-    for event in events {
-        objects = objects_by(objects, event);
-    }
-    objects
 }
 
 /// The events of the run in order, of which the last ones can be read, and for each cell how many of them touch it. A note belongs to
@@ -148,14 +136,13 @@ impl Journal {
         self.count += 1;
     }
 
-    /// Adds these events at the end, in order. Of those that are held and these the last are held that can be, and no others are copied: none
-    /// of them where none is kept. All are counted at once, and their objects one by one, by a few instructions for each.
-    #[tactic(auto, using(crate::proofs::Counted::told_low))]
+    /// Adds these events at the end, in order, none of which makes an object or frees any. Of those that are held and these the last are
+    /// held that can be, and no others are copied. Constant time where none is kept.
     pub fn append_all(&mut self, events: &[Event])
-        requires { length self.old.journal.list + length events.now ≤ self.old.room }
+        requires room { length self.old.journal.list + length events.now ≤ self.old.room }
+        requires objects { objects_told (self.old.journal.list ++ events.now) ≡ objects_told self.old.journal.list }
         ensures { self.new ≡ record self.old { journal = with_events events.now self.old.journal } }
     {
-        self.objects = objects_by_all(self.objects, events);
         self.seat.append_all(&self.tie, events);
         self.last.extend_from_slice(events);
         self.count += events.len() as u64;
