@@ -51,23 +51,29 @@ class Progress:
     def __init__(self, need, below, times, at_once):
         self.need, self.below, self.at_once = need, below, at_once
         self.seconds = {it: times.get(it, UNKNOWN_SECONDS) for it in need}
-        self.done = []
+        self.done, self.used = [], 0.0
         self.whole = seconds_left(need, below, self.seconds, at_once)
 
-    def left(self, so_far):
-        """The seconds that are left: by the times of the file, and by how fast the build has been against them."""
-        left = [it for it in self.need if it not in self.done]
-        planned = seconds_left(left, self.below, self.seconds, self.at_once)
-        planned_so_far = self.whole - planned
-        if planned_so_far <= PACE_FROM * self.whole:
-            return planned
-        return planned * min(max(so_far / planned_so_far, PACE_LEAST), PACE_MOST)
+    def pace(self):
+        """How many times the seconds of the file the crates that are done have taken of a processor; 1 where they are too few."""
+        planned = sum(self.seconds[it] for it in self.done)
+        if planned <= PACE_FROM * sum(self.seconds.values()):
+            return 1.0
+        return min(max(self.used / planned, PACE_LEAST), PACE_MOST)
 
-    def after(self, name, so_far):
-        """The line that is told when this crate is proved, so many seconds after the build began."""
+    def left(self, running):
+        """The seconds that are left, where each of these crates has been proved for so many seconds by one processor."""
+        pace = self.pace()
+        seconds = {it: max(each - running.get(it, 0.0) / pace, 0.0) for it, each in self.seconds.items()}
+        return pace * seconds_left([it for it in self.need if it not in self.done], self.below, seconds, self.at_once)
+
+    def after(self, name, so_far, used, running):
+        """The line that is told when this crate is proved, so many seconds after the build began: it took so many seconds of processors, and
+        each of the crates that are being proved has been for so many."""
         self.done.append(name)
+        self.used += used
         line = f"{len(self.done)} of {len(self.need)} crates proved, {shown(so_far)} so far"
-        return f"{line}, about {shown(self.left(so_far))} left ({name})" if len(self.done) < len(self.need) else f"{line} ({name})"
+        return f"{line}, about {shown(self.left(running))} left ({name})" if len(self.done) < len(self.need) else f"{line} ({name})"
 
 
 def shown(seconds):
