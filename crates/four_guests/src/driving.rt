@@ -5,11 +5,10 @@ ghost use Rattle.k_parts.specs.Splitting.{IsAtRest, home_of};
 
 use crate::work::{LAST, OPENING, ROUND};
 use k_host::Host;
-use k_io::NoMemory;
 use k_parts::{
     BookPart, Came, GuestPart, HostName, KernelPart, PartError, Reach, SplitHost, split,
 };
-use k_types::Op;
+use k_types::{NoMemory, Op};
 use std::alloc::Global;
 use std::marker::Brand;
 use std::sync::{Mutex, Wait};

@@ -10,8 +10,7 @@ mod work;
 
 use crate::driving::driven;
 use k_host::{Host, Rooms};
-use k_io::NoMemory;
-use k_types::TypeId;
+use k_types::{NoMemory, TypeId};
 use std::alloc::Global;
 use std::env;
 use std::process::ExitCode;

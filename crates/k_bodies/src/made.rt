@@ -5,10 +5,9 @@ ghost use Rattle.k_trace.specs.Meaning.{meaning_of};
 ghost use Rattle.k_trace.specs.Rules.{IsTrace};
 ghost use Rattle.k_bodies.specs.Bodies.{type_made, bodies_of};
 
-use k_io::NoMemory;
 use k_space::Body;
 use k_trace::Trace;
-use k_types::{Op, TypeId, TypeTable};
+use k_types::{NoMemory, Op, TypeId, TypeTable};
 use std::alloc::Global;
 use std::collections::VecDeque;
 

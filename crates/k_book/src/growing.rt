@@ -3,7 +3,7 @@ ghost use Rattle.std.specs.Prelude.{◌≡◌, ◌<◌, ◌≤◌, ◌^◌, IfOk
 
 use crate::parts::Book;
 use k_entered::EntryRoom;
-use k_io::NoMemory;
+use k_types::NoMemory;
 
 impl Book {
     /// Has that room for entry items from now on, which is no less than it had. They stay, and so does all else. It puts each of them into a

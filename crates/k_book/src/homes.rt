@@ -7,8 +7,7 @@ ghost use Rattle.k_agree.specs.Opening.{homes_at_first};
 ghost use Rattle.k_book.specs.Books.{HasFewSegments, pin_room_of};
 
 use k_entered::EnteredTables;
-use k_io::{NoMemory, push};
-use k_types::{Heap, LimitId, Pid, REGISTERS, Setup, SharedId};
+use k_types::{Heap, LimitId, NoMemory, Pid, REGISTERS, Setup, SharedId, push};
 use std::alloc::Global;
 
 /// Adds the heaps of so many processes.

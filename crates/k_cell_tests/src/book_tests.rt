@@ -2,9 +2,10 @@
 ghost use Rattle.std.specs.Prelude.{◌≡◌, ◌∷◌, [], None, true, IfOk, length};
 
 use k_book::Book;
-use k_io::NoMemory;
 use k_tie::Tie;
-use k_types::{Event, Heap, LimitId, LimitRow, Phase, Pid, Seg, Setup, SharedId, TypeTable};
+use k_types::{
+    Event, Heap, LimitId, LimitRow, NoMemory, Phase, Pid, Seg, Setup, SharedId, TypeTable,
+};
 use std::alloc::Global;
 use std::test::Fail;
 

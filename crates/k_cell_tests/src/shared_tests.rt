@@ -2,10 +2,11 @@
 ghost use Rattle.std.specs.Prelude.{◌≡◌, IfOk, length};
 
 use crate::notes::lone_note;
-use k_io::NoMemory;
 use k_shared::SharedCell;
 use k_space::Body;
-use k_types::{LimitId, LimitRow, Link, Phase, Pid, Seg, Serial, Setup, SharedId, Slot, TypeTable};
+use k_types::{
+    LimitId, LimitRow, Link, NoMemory, Phase, Pid, Seg, Serial, Setup, SharedId, Slot, TypeTable,
+};
 use std::alloc::Global;
 use std::test::Fail;
 

@@ -11,9 +11,9 @@ use crate::lines::{Stop, read_events};
 use crate::verdicts::Verdict;
 use crate::walking::Walk;
 use k_history::MatchSink;
-use k_io::NoMemory;
 use k_text::report;
 use k_trace::Trace;
+use k_types::NoMemory;
 use std::alloc::Global;
 
 // Compares the bytes with the report of the history.

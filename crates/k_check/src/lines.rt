@@ -4,7 +4,7 @@ ghost use Rattle.k_check.specs.Stops.{IsStop};
 
 use crate::walking::Walk;
 use k_history::read_event;
-use k_io::NoMemory;
+use k_types::NoMemory;
 use k_words::{is, next_line};
 use std::alloc::Global;
 

@@ -9,11 +9,10 @@ ghost use Rattle.k_history.specs.Good.{IsBegun};
 ghost use Rattle.k_state.specs.Machines.{setup_of};
 ghost use Rattle.k_check.specs.Turns.{IsInTurn};
 
-use k_io::NoMemory;
 use k_plain::{PlainState, is_complete, plain_step};
 use k_solo::PlainEnd;
 use k_trace::{Names, Trace};
-use k_types::{Event, Op, Pid};
+use k_types::{Event, NoMemory, Op, Pid};
 use std::alloc::Global;
 use std::marker::Model;
 

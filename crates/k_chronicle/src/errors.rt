@@ -1,8 +1,8 @@
 //! Why nothing is printed of a host.
 ghost use Rattle.std.specs.Prelude.{◌≡◌};
 
-use k_io::NoMemory;
 use k_print::PrintError;
+use k_types::NoMemory;
 
 /// Why nothing is printed of a host.
 #[derive(Clone, Copy, Debug, PartialEq, Eq)]

@@ -4,10 +4,9 @@ ghost use Rattle.k_print.specs.Printed.{AreTexts};
 ghost use Rattle.k_chronicle.specs.Chronicle.{IsNotTold, journal_in};
 
 use crate::errors::ChronicleError;
-use k_io::NoMemory;
 use k_keeper::{Host, Keeper};
 use k_print::{Printed, Texts};
-use k_types::Event;
+use k_types::{Event, NoMemory};
 use std::alloc::Global;
 
 /// The event of that number, of a journal that has kept them all.

@@ -7,8 +7,7 @@ ghost use Rattle.k_entry.specs.Entries.{AreEntries, HasMore, HasLess, first_obje
 ghost use Rattle.k_entered.specs.Entered.{HasRehomed, entry_items, pin_items};
 
 use k_entry::EntryTable;
-use k_io::NoMemory;
-use k_types::{Heap, Link, Name, Seg};
+use k_types::{Heap, Link, Name, NoMemory, Seg};
 use std::alloc::Global;
 use std::marker::Model;
 

@@ -10,8 +10,7 @@ ghost use Rattle.k_entry.specs.Entries.{AreEntries, HasMore, HasLess, first_obje
 use crate::copying::copy_walk;
 use crate::item::{Item, chain_count, chain_of, find, link_at, slot_of, take_slot};
 use crate::walks::{change_walk, first_from, put_in, take_out, walk_number};
-use k_base::{Heap, Link, Name, Seg, Slot};
-use k_io::NoMemory;
+use k_base::{Heap, Link, Name, NoMemory, Seg, Slot};
 use k_lists::Lists;
 use std::alloc::Global;
 use std::marker::Model;

@@ -9,10 +9,9 @@ use crate::segments::{grow_objects, narrow_objects};
 use crate::terms::Terms;
 use k_book::{Book, EntryRoom};
 use k_cell::ExitRoom;
-use k_io::NoMemory;
 use k_kernel::KernelCell;
 use k_shared::SharedCell;
-use k_types::Event;
+use k_types::{Event, NoMemory};
 use std::alloc::Global;
 
 /// Whether each of the rooms is no less than the old one.

@@ -11,13 +11,12 @@ use crate::rooms::Rooms;
 use crate::terms::Terms;
 use k_book::Book;
 use k_heap::{CellRooms, HeapCell};
-use k_io::NoMemory;
 use k_kernel::KernelCell;
 use k_limits::MakeError;
 use k_shared::SharedCell;
 use k_space::Body;
 use k_tie::{JournalSeat, Note, Tie};
-use k_types::{Pid, SharedId};
+use k_types::{NoMemory, Pid, SharedId};
 use std::alloc::Global;
 use std::collections::VecDeque;
 

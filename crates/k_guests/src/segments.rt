@@ -5,10 +5,9 @@ ghost use Rattle.k_guests.specs.Growing.{FitsIn, HasObjects, HeapFitsIn, HeapHas
 ghost use Rattle.k_guests.specs.Growing.{CanGrowGuest, CanGrowHeap, CanNarrowGuest, CanNarrowHeap, CanNarrowObjects, HaveFit, HaveGrownObjects, HaveObjects};
 
 use crate::guest::Guest;
-use k_io::NoMemory;
 use k_kernel::KernelCell;
 use k_shared::SharedCell;
-use k_types::Phase;
+use k_types::{NoMemory, Phase};
 
 /// Has room for so many objects in the process's own segment, if it lives.
 fn grow_guest(guest: &mut Guest, objects: u32) -> Result<(), NoMemory>

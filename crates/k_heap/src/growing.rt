@@ -5,8 +5,7 @@ ghost use Rattle.k_heap.specs.Heaps.{own_segment};
 
 use crate::heap::HeapCell;
 use k_cell::ExitRoom;
-use k_io::NoMemory;
-use k_types::{Event, Seg};
+use k_types::{Event, NoMemory, Seg};
 
 /// Copies all events to the end of the row, in their order.
 fn copy_events(from: &[Event], into: &mut Vec<Event>)

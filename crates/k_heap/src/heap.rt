@@ -4,8 +4,7 @@ ghost use Rattle.std.specs.Borrow.{sem};
 ghost use Rattle.k_heap.specs.Heaps.{opened_heap, segments_of};
 
 use k_cell::{Body, HoldingRooms, Holdings, Note};
-use k_io::NoMemory;
-use k_types::{Event, Link, Pid, Seg, Setup};
+use k_types::{Event, Link, NoMemory, Pid, Seg, Setup};
 use std::alloc::Global;
 use std::collections::VecDeque;
 use std::marker::Model;

@@ -7,8 +7,7 @@ ghost use Rattle.k_heap.specs.Heaps.{with_process_ended, with_register_in};
 
 use crate::heap::HeapCell;
 use k_cell::Body;
-use k_io::NoMemory;
-use k_types::{Event, Link, Reg};
+use k_types::{Event, Link, NoMemory, Reg};
 
 impl HeapCell {
     /// Has the register hold that. Constant time.

@@ -1,7 +1,7 @@
 //! Why no host is made, and why none is made larger.
 ghost use Rattle.std.specs.Prelude.{◌≡◌};
 
-use k_io::NoMemory;
+use k_types::NoMemory;
 
 /// Why no host is made.
 #[derive(Clone, Copy, Debug, PartialEq, Eq)]

@@ -9,9 +9,8 @@ ghost use Rattle.k_host.specs.Twins.{first_twin};
 use crate::host::Host;
 use crate::twin::Twin;
 use k_ends::Rooms;
-use k_io::NoMemory;
 use k_trace::Names;
-use k_types::{CellPhase, Event, Name, Pid, Setup, SharedId};
+use k_types::{CellPhase, Event, Name, NoMemory, Pid, Setup, SharedId};
 use std::alloc::Global;
 
 impl Host {

@@ -4,9 +4,8 @@ ghost use Rattle.k_types.specs.Trace.{trace_of};
 ghost use Rattle.k_state.specs.Machines.{AreSetupRules};
 ghost use Rattle.k_host.specs.Twins.{RefusesEvent, TakesEvent, first_twin};
 
-use k_io::NoMemory;
 use k_plain::{PlainState, plain_step};
-use k_types::{Event, Setup};
+use k_types::{Event, NoMemory, Setup};
 use std::alloc::Global;
 use std::marker::Model;
 

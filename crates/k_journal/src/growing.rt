@@ -2,7 +2,7 @@
 ghost use Rattle.std.specs.Prelude.{◌≡◌, ◌<◌, ◌≤◌, ◌^◌, IfOk, OnErr, length};
 
 use crate::keeping::Journal;
-use k_io::NoMemory;
+use k_types::NoMemory;
 
 impl Journal {
     /// Has room for so many events from now on, no fewer than before. Constant time, and no memory.

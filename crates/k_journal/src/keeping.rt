@@ -6,9 +6,8 @@ ghost use Rattle.k_journal.specs.Kept.{with_event, with_events, with_touch, with
 ghost use Rattle.k_journal.specs.Objects.{objects_by, objects_told};
 
 use circular_buffer::HeapCircularBuffer;
-use k_io::NoMemory;
 use k_tie::{JournalSeat, Note, Tie};
-use k_types::{Event, Reply};
+use k_types::{Event, NoMemory, Reply};
 use std::alloc::Global;
 use std::marker::Model;
 

@@ -4,8 +4,7 @@ ghost use Rattle.k_cell.specs.Holdings.{AreWithin, CanGrowTo, CanNarrowTo};
 
 use crate::kernel::KernelCell;
 use k_cell::ExitRoom;
-use k_io::NoMemory;
-use k_types::Seg;
+use k_types::{NoMemory, Seg};
 
 impl KernelCell {
     /// Has that room for exit items from now on, which is enough for them. They stay, each marked or not as it was. It passes each of them,

@@ -4,8 +4,7 @@ ghost use Rattle.std.specs.Borrow.{sem};
 ghost use Rattle.k_kernel.specs.Kernels.{opened_kernel, segments_of};
 
 use k_cell::{Body, HoldingRooms, Holdings, Note};
-use k_io::NoMemory;
-use k_types::{Seg, Setup};
+use k_types::{NoMemory, Seg, Setup};
 use std::alloc::Global;
 use std::marker::Model;
 

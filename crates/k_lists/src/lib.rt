@@ -4,7 +4,7 @@
 //! and there once. Only [`Lists::make`] takes memory. Each call but that and
 //! [`Lists::move_into`] takes constant time.
 //!
-//! The crate stands on `k_io` for want of memory.
+//! The crate stands on `k_memory` for want of memory.
 #![tactic(auto)]
 
 mod growing;

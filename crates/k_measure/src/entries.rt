@@ -7,8 +7,7 @@ ghost use Rattle.k_measure.specs.Counts.{AreBelow, occurs};
 use crate::names::{ROUNDS, link_to, scattered};
 use crate::watch::Watch;
 use k_entry::EntryTable;
-use k_io::NoMemory;
-use k_types::{Heap, Name, Pid};
+use k_types::{Heap, Name, NoMemory, Pid};
 use std::alloc::Global;
 use std::time::CpuClock;
 

@@ -4,8 +4,7 @@ ghost use Rattle.std.specs.Prelude.{◌≡◌, ◌≤◌, length};
 use crate::names::{ROUNDS, link_to, scattered};
 use crate::watch::Watch;
 use k_exit::ExitTable;
-use k_io::NoMemory;
-use k_types::Name;
+use k_types::{Name, NoMemory};
 use std::alloc::Global;
 use std::time::CpuClock;
 

@@ -7,10 +7,9 @@ use crate::heap::{SEG, link, make, place, roots, types};
 use crate::names::{ROUNDS, link_to};
 use crate::watch::Watch;
 use k_exit::ExitTable;
-use k_io::NoMemory;
 use k_mark::{clear, mark_uncounted};
 use k_space::{Area, Segment};
-use k_types::{Field, Link, Name, Seg, Serial};
+use k_types::{Field, Link, Name, NoMemory, Seg, Serial};
 use std::alloc::Global;
 use std::time::CpuClock;
 

@@ -5,10 +5,9 @@ ghost use Rattle.k_measure.specs.Inside.{AreNew, KeepsInside, IsOne, HasNoBlack}
 
 use crate::watch::Watch;
 use k_exit::ExitTable;
-use k_io::NoMemory;
 use k_mark::{Swept, clear, mark_uncounted, root, sweep};
 use k_space::{Area, Body, Segment};
-use k_types::{Field, Link, Seg, Serial, TypeId, TypeTable};
+use k_types::{Field, Link, NoMemory, Seg, Serial, TypeId, TypeTable};
 use std::alloc::Global;
 use std::time::CpuClock;
 

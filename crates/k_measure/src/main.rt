@@ -21,7 +21,7 @@ mod wide;
 use crate::entries::Last;
 use crate::heap::Stage;
 use crate::watch::Watch;
-use k_io::NoMemory;
+use k_types::NoMemory;
 use std::env;
 use std::process::ExitCode;
 

@@ -3,8 +3,7 @@ ghost use Rattle.std.specs.Prelude.{◌≡◌, ◌≤◌, ◌<◌, length, IfOk}
 ghost use Rattle.k_types.specs.Names.{name_of};
 ghost use Rattle.k_measure.specs.Counts.{AreBelow};
 
-use k_io::NoMemory;
-use k_types::{Link, Name, Seg, Serial, Slot};
+use k_types::{Link, Name, NoMemory, Seg, Serial, Slot};
 use std::alloc::Global;
 
 /// How often each target is taken in a measurement.

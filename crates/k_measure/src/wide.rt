@@ -5,10 +5,9 @@ ghost use Rattle.k_measure.specs.Inside.{AreInside, HasNoBlack, KeepsInside};
 use crate::heap::{link, link_to, make, place, types};
 use crate::watch::Watch;
 use k_exit::ExitTable;
-use k_io::NoMemory;
 use k_mark::{clear, mark_uncounted, root};
 use k_space::{Area, Segment};
-use k_types::{Seg, TypeTable};
+use k_types::{NoMemory, Seg, TypeTable};
 use std::alloc::Global;
 use std::time::CpuClock;
 

@@ -1,8 +1,7 @@
 //! Room for what a report lists.
 ghost use Rattle.std.specs.Prelude.{◌≡◌, ◌∷◌, ◌++◌, [], IfOk};
 
-use k_io::NoMemory;
-use k_types::Name;
+use k_types::{Name, NoMemory};
 use std::alloc::Global;
 use std::marker::Model;
 

@@ -26,7 +26,7 @@ pub use errors::PartError;
 pub use head::Head;
 pub use k_ends::{Came, HostError, Reach, Terms};
 pub use k_host::{Host, OpenError, Taken};
-pub use k_io::NoMemory;
+pub use k_types::NoMemory;
 pub use laws::parts_are_one_host;
 pub use names::{AnyHost, HostName};
 pub use parts::{BookPart, GuestPart, KernelPart, SharedPart};

@@ -10,9 +10,9 @@ use crate::names::HostName;
 use crate::parts::{BookPart, GuestPart, KernelPart, SharedPart};
 use k_ends::{Guest, Parts, Terms};
 use k_host::Host;
-use k_io::NoMemory;
 use k_mark::Freed;
 use k_shared::SharedCell;
+use k_types::NoMemory;
 use std::alloc::Global;
 use std::sync::Arc;
 

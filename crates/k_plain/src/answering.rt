@@ -9,9 +9,8 @@ ghost use Rattle.k_types.specs.Trace.{process_count};
 ghost use Rattle.k_types.specs.declared.event.Event.TheVariants.{Done};
 
 use crate::effects::take_effect;
-use k_io::NoMemory;
 use k_scan::PlainLists;
-use k_types::{Op, Pid, Reply};
+use k_types::{NoMemory, Op, Pid, Reply};
 use std::alloc::Global;
 
 // The effect of an operation that the machine answers so: none where it is refused.

@@ -12,10 +12,9 @@ ghost use Rattle.k_types.specs.Trace.{IsHeap, process_count, segment_of};
 ghost use Rattle.k_types.specs.Updates.{add_share, set_phase, set_register};
 ghost use Rattle.k_types.specs.declared.names.Phase.TheVariants.{Populating};
 
-use k_io::NoMemory;
 use k_reply::{DIRECTORY, loaded_reference, root_of};
 use k_scan::{FieldValue, PlainLists, begin, end_of_process, is_same_heap};
-use k_types::{Heap, Name, Op, Phase, Pid, Reg, SharedId, TypeId};
+use k_types::{Heap, Name, NoMemory, Op, Phase, Pid, Reg, SharedId, TypeId};
 use std::alloc::Global;
 
 // Makes the heap's next object, to which the register refers from then on.

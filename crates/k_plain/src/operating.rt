@@ -9,10 +9,9 @@ ghost use Rattle.k_types.specs.Trace.{process_count};
 ghost use Rattle.k_types.specs.declared.event.Event.TheVariants.{Done};
 
 use crate::effects::take_effect;
-use k_io::NoMemory;
 use k_reply::{answer, first_fault};
 use k_scan::PlainLists;
-use k_types::{Op, Pid, Reply};
+use k_types::{NoMemory, Op, Pid, Reply};
 use std::alloc::Global;
 
 // The operation, but for the count of operations done.

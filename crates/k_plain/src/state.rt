@@ -16,9 +16,8 @@ ghost use Rattle.k_types.specs.declared.event.Event.TheVariants.{Done};
 use crate::counting::{objects_of, refs_of};
 use crate::operating::operate;
 use crate::stepping::{step_if_possible, take_step};
-use k_io::NoMemory;
 use k_scan::{PlainLists, ending};
-use k_types::{Event, Heap, Op, Pid, Reply, Setup};
+use k_types::{Event, Heap, NoMemory, Op, Pid, Reply, Setup};
 use std::alloc::Global;
 use std::marker::Model;
 

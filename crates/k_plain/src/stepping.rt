@@ -8,10 +8,9 @@ ghost use Rattle.k_types.specs.State.{is_scanned};
 ghost use Rattle.k_types.specs.Steps.{IsPossible};
 
 use crate::answering::take_answered;
-use k_io::NoMemory;
 use k_reply::{may_be_absorbed, may_be_done, may_close};
 use k_scan::{PlainLists, absorb, close, end_collection, end_collection_by};
-use k_types::{Event, Heap};
+use k_types::{Event, Heap, NoMemory};
 use std::alloc::Global;
 
 // Ends the open collection of the heap, where there is one and this event is its end as it is now, and says whether it is.

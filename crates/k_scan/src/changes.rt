@@ -9,9 +9,8 @@ ghost use Rattle.k_types.specs.Updates.{open_scan};
 
 use crate::rooting::roots;
 use crate::surviving::lies_in;
-use k_io::NoMemory;
 use k_state::{ExitItem, PlainLists, is_same_heap};
-use k_types::{Heap, Name, Phase, Pid, SharedId};
+use k_types::{Heap, Name, NoMemory, Phase, Pid, SharedId};
 use std::alloc::Global;
 
 /// Begins a collection of the heap, with the roots that it has now.

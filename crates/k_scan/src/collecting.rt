@@ -12,9 +12,8 @@ ghost use Rattle.k_types.specs.Updates.{keep_objects};
 
 use crate::marking::Marks;
 use crate::surviving::{reached_of_scan, surviving_exits, surviving_shares};
-use k_io::NoMemory;
 use k_state::{PlainLists, PlainObject, is_same_heap};
-use k_types::{Event, Heap, Seg};
+use k_types::{Event, Heap, NoMemory, Seg};
 use std::alloc::Global;
 
 // What the end of a collection keeps: the objects that are reached, and a mark for each exit item and share.

@@ -8,9 +8,8 @@ ghost use Rattle.k_types.specs.Reach.{has_entry, is_held, is_pinned, is_root};
 ghost use Rattle.k_types.specs.Trace.{process_count};
 
 use crate::marking::Marks;
-use k_io::NoMemory;
 use k_state::{PlainLists, is_same_heap};
-use k_types::{Heap, Name, Pid, Seg, Serial};
+use k_types::{Heap, Name, NoMemory, Pid, Seg, Serial};
 use std::alloc::Global;
 
 // The object from which every run begins.

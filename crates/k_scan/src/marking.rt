@@ -5,9 +5,8 @@ ghost use Rattle.k_state.specs.Segments.{objects_in};
 ghost use Rattle.k_types.specs.Trace.{segment_count};
 ghost use Rattle.k_types.specs.declared.names.Name.{Name};
 
-use k_io::NoMemory;
 use k_state::{PlainLists, is_same_heap};
-use k_types::{Heap, Name, Seg};
+use k_types::{Heap, Name, NoMemory, Seg};
 use std::alloc::Global;
 use std::marker::Model;
 

@@ -8,9 +8,8 @@ ghost use Rattle.k_types.specs.State.{has, refers};
 
 use crate::marking::Marks;
 use crate::waiting::Waiting;
-use k_io::NoMemory;
 use k_state::{FieldValue, PlainLists, PlainObject, is_same_heap};
-use k_types::{Heap, Name};
+use k_types::{Heap, Name, NoMemory};
 use std::alloc::Global;
 
 // Marks the object of that name and puts it on the list of work, where it is the heap's and is not marked yet.

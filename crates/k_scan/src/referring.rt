@@ -12,9 +12,8 @@ ghost use Rattle.k_types.specs.State.{Object, content_leads_to, has_exit, refers
 ghost use Rattle.k_types.specs.declared.names.Name.{Name as Named};
 
 use crate::marking::Marks;
-use k_io::NoMemory;
 use k_state::{FieldValue, PlainLists, PlainObject, is_same_heap};
-use k_types::{Heap, Name, Seg};
+use k_types::{Heap, Name, NoMemory, Seg};
 use std::alloc::Global;
 use std::marker::Model;
 

@@ -5,9 +5,8 @@ ghost use Rattle.k_types.specs.Reach.{roots_of};
 ghost use Rattle.k_types.specs.State.{Object};
 
 use crate::holding::mark_roots;
-use k_io::NoMemory;
 use k_state::{PlainLists, PlainObject, is_same_heap};
-use k_types::{Heap, Name, Seg};
+use k_types::{Heap, Name, NoMemory, Seg};
 use std::alloc::Global;
 
 // Adds the names of the marked objects. There is a mark for each object, in their order.

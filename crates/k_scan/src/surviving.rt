@@ -12,9 +12,8 @@ use crate::leading::{is_led_into, led_into};
 use crate::marking::Marks;
 use crate::reaching::reached;
 use crate::referring::{is_noted, note_referred};
-use k_io::NoMemory;
 use k_state::{PlainLists, Share, is_same_heap};
-use k_types::{Heap, MOST_SHARED_HEAPS, Name, Phase, Pid, SharedId};
+use k_types::{Heap, MOST_SHARED_HEAPS, Name, NoMemory, Phase, Pid, SharedId};
 use std::alloc::Global;
 
 // What the roots of the heap's open collection reach.

@@ -5,8 +5,7 @@ ghost use Rattle.k_types.specs.Trace.{segment_count, trace_of};
 ghost use Rattle.k_shared.specs.SharedHeaps.{opened_shared};
 
 use k_cell::{HoldingRooms, Holdings, Note};
-use k_io::NoMemory;
-use k_types::{Phase, Seg, Setup, SharedId};
+use k_types::{NoMemory, Phase, Seg, Setup, SharedId};
 use std::alloc::Global;
 use std::marker::Model;
 

@@ -4,7 +4,7 @@ ghost use Rattle.k_cell.specs.Holdings.{AreWithin, CanGrowTo, CanNarrowTo};
 
 use crate::cell::SharedCell;
 use k_cell::ExitRoom;
-use k_io::NoMemory;
+use k_types::NoMemory;
 
 impl SharedCell {
     /// Has that room for exit items from now on, which is enough for them. They stay, each marked or not as it was. It passes each of them,

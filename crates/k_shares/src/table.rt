@@ -6,8 +6,7 @@ ghost use Rattle.k_base.specs.k_types.State.{has_share};
 ghost use Rattle.k_shares.specs.Sharers.{unshared, bytes_in_phase, heap_number, is_orphan_by, living_of, lowest_orphan, GainsShare, LosesShare, GainsEnded};
 
 use crate::bits::{is_shared, place_of_pair, take_bytes, was_made};
-use k_base::{Phase, Pid, SharedId};
-use k_io::NoMemory;
+use k_base::{NoMemory, Phase, Pid, SharedId};
 use std::alloc::Global;
 use std::marker::Model;
 

@@ -7,10 +7,9 @@ ghost use Rattle.k_types.specs.Trace.{IsHeap};
 ghost use Rattle.k_solo.specs.Runs.{Run};
 
 use crate::targets::all_targets;
-use k_io::NoMemory;
 use k_plain::PlainState;
 use k_state::PlainLists;
-use k_types::{Event, Heap, Name};
+use k_types::{Event, Heap, Name, NoMemory};
 use std::alloc::Global;
 use std::marker::Model;
 

@@ -10,10 +10,9 @@ ghost use Rattle.k_types.specs.declared.op.Op.{Op};
 
 use crate::ending::PlainEnd;
 use crate::taking::{do_last, do_operation};
-use k_io::NoMemory;
 use k_plain::PlainState;
 use k_trace::Trace;
-use k_types::{Op, Pid};
+use k_types::{NoMemory, Op, Pid};
 use std::alloc::Global;
 
 // The process's next operation; none once it has ended.

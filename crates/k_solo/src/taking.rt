@@ -8,10 +8,9 @@ ghost use Rattle.k_types.specs.Steps.{IsPossible, IsRun, waits_for_orphans};
 ghost use Rattle.k_types.specs.declared.event.Event.TheVariants.{Closing, Done};
 ghost use Rattle.k_types.specs.declared.names.Heap.TheVariants.{Kernel};
 
-use k_io::NoMemory;
 use k_plain::PlainState;
 use k_reply::{all_ended, is_orphan};
-use k_types::{Event, Heap, Op, Pid, SharedId};
+use k_types::{Event, Heap, NoMemory, Op, Pid, SharedId};
 use std::alloc::Global;
 
 // Takes the step and notes its event.

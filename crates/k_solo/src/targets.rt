@@ -6,9 +6,8 @@ ghost use Rattle.k_types.specs.Names.{heap_eq};
 ghost use Rattle.k_types.specs.Sound.{AreDistinctExits};
 ghost use Rattle.k_types.specs.State.{ExitItem as Item};
 
-use k_io::NoMemory;
 use k_state::PlainLists;
-use k_types::{Heap, Name, Pid, SharedId};
+use k_types::{Heap, Name, NoMemory, Pid, SharedId};
 use std::alloc::Global;
 
 // The targets of the heap's exit items, as they stand.

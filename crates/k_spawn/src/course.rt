@@ -8,8 +8,7 @@ ghost use Rattle.k_spawn.specs.Timely.{weight, has_left, operations_so_far, is_o
 
 use crate::family::Family;
 use crate::script::{Deed, ScriptLine};
-use k_io::{NoMemory, push};
-use k_types::{Op, Pid};
+use k_types::{NoMemory, Op, Pid, push};
 use std::alloc::Global;
 use std::marker::Model;
 

@@ -2,7 +2,7 @@
 ghost use Rattle.std.specs.Prelude.{◌≡◌};
 
 use crate::reasons::ScriptReason;
-use k_io::NoMemory;
+use k_types::NoMemory;
 
 /// Why a line is not taken: memory ran out, or the line is bad by this reason.
 #[derive(Debug, Drop)]

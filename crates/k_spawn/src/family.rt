@@ -3,8 +3,7 @@ ghost use Rattle.std.specs.Prelude.{◌≡◌, ◌<◌, ◌≤◌, ◌+◌, ◌+
 ghost use Rattle.std.specs.List.{AllByRecursion};
 ghost use Rattle.k_spawn.specs.Families.{is_child, is_parent, place_of, reaped_within, reaped_with};
 
-use k_io::{NoMemory, push};
-use k_types::Pid;
+use k_types::{NoMemory, Pid, push};
 use std::alloc::Global;
 use std::marker::Model;
 

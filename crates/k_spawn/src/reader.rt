@@ -13,9 +13,10 @@ use crate::course::{Course, weight_of};
 use crate::errors::ScriptLineError;
 use crate::reasons::ScriptReason;
 use crate::script::{Deed, Script};
-use k_io::NoMemory;
 use k_trace::{LineError, Place, Reader, Reason, read_op};
-use k_types::{MAXIMUM_BELOW, MOST_LIMITS, MOST_LINE_BYTES, MOST_OPERATIONS, MOST_PROCESSES, Pid};
+use k_types::{
+    MAXIMUM_BELOW, MOST_LIMITS, MOST_LINE_BYTES, MOST_OPERATIONS, MOST_PROCESSES, NoMemory, Pid,
+};
 use k_words::{
     NameList, after_word, are_words, is, is_keyword, is_name, is_printable, number, word,
     word_count,

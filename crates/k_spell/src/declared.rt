@@ -6,9 +6,8 @@ ghost use Rattle.k_words.specs.Words.{text_of};
 ghost use Rattle.k_trace.specs.Spelling.{declarations, type_words, limit_words, proc_words, shared_words};
 
 use crate::lines::{push_limit, push_proc, push_shared, push_type};
-use k_io::NoMemory;
 use k_trace::Names;
-use k_types::{LimitId, LimitRow, Pid, Setup, SharedId, TypeId, TypeTable};
+use k_types::{LimitId, LimitRow, NoMemory, Pid, Setup, SharedId, TypeId, TypeTable};
 use k_words::LineBuffer;
 
 /// Adds the lines of the version and of the kernel.

@@ -9,9 +9,8 @@ ghost use Rattle.k_trace.specs.Rules.{IsTrace};
 ghost use Rattle.k_trace.specs.Spelling.{first_line, operation_lines};
 
 use crate::lines::push_operation;
-use k_io::NoMemory;
 use k_trace::{Names, Trace};
-use k_types::{MOST_PROCESSES, Op, Pid};
+use k_types::{MOST_PROCESSES, NoMemory, Op, Pid};
 use k_words::LineBuffer;
 
 /// Adds the line of the operation at that place among those of a process.

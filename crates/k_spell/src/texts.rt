@@ -6,8 +6,8 @@ ghost use Rattle.k_trace.specs.Spelling.{text};
 
 use crate::declared::{add_heading, add_limits, add_procs, add_shared, add_types};
 use crate::operations::add_operations;
-use k_io::NoMemory;
 use k_trace::Trace;
+use k_types::NoMemory;
 use std::alloc::Global;
 
 /// The text of a trace, with its last line feed. It costs time and memory in proportion to the text.

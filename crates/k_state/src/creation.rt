@@ -9,8 +9,7 @@ ghost use Rattle.k_types.specs.Updates.{create, next_name};
 
 use crate::lists::PlainLists;
 use crate::objects::{FieldValue, PlainObject};
-use k_io::NoMemory;
-use k_types::{Field, MOST_FIELDS, Name, Seg, Serial, TypeId, TypeTable};
+use k_types::{Field, MOST_FIELDS, Name, NoMemory, Seg, Serial, TypeId, TypeTable};
 use std::alloc::Global;
 
 // A field as it is when its object is made.

@@ -8,8 +8,7 @@ use crate::items::ExitItem;
 use crate::keeping::keep_marked;
 use crate::links::Links;
 use crate::turning::turn;
-use k_io::{NoMemory, push};
-use k_types::{Heap, Name};
+use k_types::{Heap, Name, NoMemory, push};
 use std::alloc::Global;
 use std::marker::Model;
 

@@ -5,8 +5,7 @@ ghost use Rattle.k_types.specs.State.{has_exit};
 
 use crate::items::ExitItem;
 use k_hash::chain_of;
-use k_io::NoMemory;
-use k_types::{Heap, Name};
+use k_types::{Heap, Name, NoMemory};
 use std::alloc::Global;
 use std::marker::Model;
 

@@ -10,8 +10,7 @@ use crate::lists::PlainLists;
 use crate::objects::{FieldValue, PlainObject};
 use crate::registers::Registers;
 use crate::segments::Segments;
-use k_io::NoMemory;
-use k_types::{LimitRow, Name, Phase, Seg, Serial, Setup};
+use k_types::{LimitRow, Name, NoMemory, Phase, Seg, Serial, Setup};
 use std::alloc::Global;
 
 impl PlainLists {

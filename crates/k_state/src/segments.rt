@@ -17,8 +17,7 @@ ghost use Rattle.k_types.specs.declared.names.Name.{Name};
 use crate::keeping::{bytes_of, keep_marked, recount};
 use crate::objects::{FieldValue, PlainObject};
 use crate::ordered::{find, index_of};
-use k_io::{NoMemory, push};
-use k_types::{Name, Seg};
+use k_types::{Name, NoMemory, Seg, push};
 use std::alloc::Global;
 use std::marker::Model;
 

@@ -12,8 +12,7 @@ use crate::objects::PlainObject;
 use crate::opening::{copy_of, null_registers};
 use crate::registers::Registers;
 use crate::segments::Segments;
-use k_io::{NoMemory, push};
-use k_types::{Name, Phase, Pid, Reg, Setup};
+use k_types::{Name, NoMemory, Phase, Pid, Reg, Setup, push};
 use std::alloc::Global;
 use std::marker::Model;
 

@@ -19,8 +19,7 @@ ghost use Rattle.k_types.specs.Updates.{
 use crate::items::{Scan, Share, has_share};
 use crate::lists::PlainLists;
 use crate::registers::Registers;
-use k_io::NoMemory;
-use k_types::{Heap, LimitId, Name, Phase, Pid, Reg, SharedId};
+use k_types::{Heap, LimitId, Name, NoMemory, Phase, Pid, Reg, SharedId};
 
 impl PlainLists {
     /// One more operation of the process is done.

@@ -7,8 +7,7 @@ ghost use Rattle.k_types.specs.Updates.{add_exit, write};
 use crate::items::ExitItem;
 use crate::lists::PlainLists;
 use crate::objects::FieldValue;
-use k_io::NoMemory;
-use k_types::{Heap, Name};
+use k_types::{Heap, Name, NoMemory};
 
 impl PlainLists {
     /// The field of the object holds the value. Nothing changes where there is no such object or no such field.

@@ -9,13 +9,12 @@ use crate::prepared::Prepared;
 use crate::rooms::stores_in;
 use k_book::Book;
 use k_heap::{CellRooms, HeapCell};
-use k_io::NoMemory;
 use k_kernel::KernelCell;
 use k_process::{Heaps, Process};
 use k_shared::SharedCell;
 use k_space::Body;
 use k_tie::Note;
-use k_types::{Op, Pid, Setup, SharedId};
+use k_types::{NoMemory, Op, Pid, Setup, SharedId};
 use std::alloc::Global;
 use std::collections::VecDeque;
 

@@ -9,12 +9,11 @@ ghost use Rattle.k_process.specs.Worlds.{WorldValue};
 use crate::beginning::open_heaps;
 use crate::prepared::{Prepared, prepare};
 use k_book::Book;
-use k_io::NoMemory;
 use k_limits::MakeError;
 use k_process::Heaps;
 use k_tie::{JournalSeat, Note, Tie};
 use k_trace::{Names, Trace};
-use k_types::{Pid, Setup};
+use k_types::{NoMemory, Pid, Setup};
 use std::alloc::Global;
 
 /// All heaps of a run before the first event, not yet behind locks, with all memory that its steps will need.

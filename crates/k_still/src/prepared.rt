@@ -6,9 +6,9 @@ ghost use Rattle.k_still.specs.Opening.{IsPrepared};
 
 use crate::rooms::{all_events, all_stores, serial_rooms, shared_rooms};
 use k_bodies::bodies;
-use k_io::NoMemory;
 use k_space::Body;
 use k_trace::Trace;
+use k_types::NoMemory;
 use std::alloc::Global;
 use std::collections::VecDeque;
 

@@ -6,9 +6,8 @@ ghost use Rattle.k_trace.specs.Meaning.{meaning_of};
 ghost use Rattle.k_trace.specs.Rules.{IsTrace};
 ghost use Rattle.k_still.specs.Opening.{AreSerialRooms, AreSharedRooms, CanCount, CanRaise, counted, heap_made, raised, segment_given, with_more, with_one_more};
 
-use k_io::NoMemory;
 use k_trace::Trace;
-use k_types::Op;
+use k_types::{NoMemory, Op};
 use std::alloc::Global;
 
 /// Whether the operation is a store.

@@ -4,10 +4,9 @@ ghost use Rattle.k_space.specs.Segments.{White, Black};
 ghost use Rattle.k_mark.specs.Example.{AreConnected, AreNodes, ArePlaced, node_types};
 
 use k_exit::ExitTable;
-use k_io::NoMemory;
 use k_mark::{Steps, Swept, clear, mark, root, sweep};
 use k_space::{Area, Body, Segment};
-use k_types::{Field, Link, Seg, Serial, Slot, TypeId, TypeTable};
+use k_types::{Field, Link, NoMemory, Seg, Serial, Slot, TypeId, TypeTable};
 use std::alloc::Global;
 use std::marker::Brand;
 use std::sync::ledger::{Blank, Ledger};

@@ -9,7 +9,7 @@ use crate::sample::Sample;
 use crate::steps::{GiveWatcher, PublishFirst};
 use crate::watcher::Watcher;
 use k_book::Book;
-use k_io::NoMemory;
+use k_types::NoMemory;
 use std::alloc::Global;
 use std::sync::{Arc, Wait};
 
