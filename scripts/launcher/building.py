@@ -1,4 +1,4 @@
-"""How ./kaffe builds the program: proved, crates side by side, or without any proof."""
+"""How ./kaffe builds the program: proved, by the kit's gate, or without any proof."""
 import contextlib
 import fcntl
 import os
@@ -10,9 +10,9 @@ import tempfile
 import threading
 import time
 
-from launcher import sources
+from launcher import proving, sources
 from launcher.commands import fail
-from launcher.sentences import NO_PROGRAM, USAGE
+from launcher.sentences import NO_PROGRAM
 
 NO_KIT = "rt, the command of the Rattle kit, is not on the PATH, so the program cannot be built"
 # The workload of the run in which the unproved program is taken out of rt's own folder, and how often that folder is looked at.
@@ -58,24 +58,18 @@ def built(program, build):
 
 
 def build_proved(program):
-    """Has rt prove the crates, side by side where several are to be proved, and build the program; ends the launcher where that fails."""
+    """Has rt prove the crates, several at once, and build the program; ends the launcher where that fails."""
     top = program.top
     doors = subprocess.run([f"{top}/scripts/one-door"], stdin=subprocess.DEVNULL, stdout=sys.stderr, check=False)
     if doors.returncode:
         fail(NO_PROGRAM, "the code at these places could answer want of memory with no refused allocation")
-    say("proving and building the program, which a first time takes some twenty-five minutes (--unproved takes a minute)")
+    say("proving and building the program, which a first time takes twenty to forty minutes (--unproved takes a minute)")
     began = time.monotonic()
-    crates = subprocess.run([f"{top}/scripts/side-by-side"], stdin=subprocess.DEVNULL, stdout=sys.stderr, check=False)
-    if crates.returncode:
-        fail(NO_PROGRAM, "a crate that the program needs was not proved, so the program is not built")
-    with tempfile.TemporaryFile("w+", errors="replace") as log:
-        # rt builds what it runs: with no words the program only writes its usage line.
-        subprocess.run(["rt", "run"], cwd=f"{top}/crates/{sources.PROGRAM}", stdin=subprocess.DEVNULL, stdout=log, stderr=subprocess.STDOUT, check=False)
-        log.seek(0)
-        said = log.read()
-    if USAGE not in said.split("\n") or not os.access(program.path, os.X_OK):
-        sys.stderr.write(said)
-        fail(NO_PROGRAM, "the program could not be built")
+    with tempfile.TemporaryDirectory(prefix="proving-", dir=os.path.dirname(program.path)) as room:
+        made = proving.prove(top, f"{room}/copy")
+        if not made:
+            fail(NO_PROGRAM, "a crate that the program needs was not proved, or it does not run as it should, so the program is not built")
+        os.replace(made, program.path)
     say(f"built in {round(time.monotonic() - began)} s")
 
 

@@ -1,7 +1,7 @@
 """How far a build is: the crates that are done, the time so far, and the time left by docs/gate-times."""
 import heapq
 
-# How much faster a crate is proved by several jobs than by one, and how long one takes that nobody has timed, in seconds.
+# How much faster a crate is proved by several jobs than by one, where it is given them, and how long one takes that nobody has timed, in seconds.
 GAIN_OF_JOBS, UNKNOWN_SECONDS = 2.0, 60.0
 # Before so much of a build is done its own pace says too little, and beyond these factors it is not believed.
 PACE_FROM, PACE_LEAST, PACE_MOST = 0.05, 0.3, 10.0
@@ -18,6 +18,17 @@ def times_of(path):
     return found
 
 
+def put_times(path, measured):
+    """Puts these seconds into the file, and leaves its other lines as they are."""
+    with open(path, encoding="utf-8") as file:
+        lines = file.read().splitlines()
+    known = [line.split()[0] if line and not line.startswith("#") else "" for line in lines]
+    lines = [f"{name} {measured[name]:.0f}" if name in measured else line for name, line in zip(known, lines)]
+    lines += [f"{name} {seconds:.0f}" for name, seconds in measured.items() if name not in known]
+    with open(path, "w", encoding="utf-8") as file:
+        file.writelines(f"{line}\n" for line in lines)
+
+
 def chains(need, below, seconds):
     """For each crate the seconds of the longest chain from it upward, itself among them."""
     above = {name: [other for other in need if name in below[other]] for name in need}
@@ -27,8 +38,9 @@ def chains(need, below, seconds):
     return found
 
 
-def seconds_left(need, below, seconds, at_once):
-    """How long the crates that are needed take, lowest first in the list, at_once side by side and the longest chain first."""
+def seconds_left(need, below, seconds, at_once, gain=1.0):
+    """How long the crates that are needed take, lowest first in the list, at_once side by side and the longest chain first. A crate that
+    is alone is proved so many times faster: it may be given the processors that nobody else wants."""
     need = [it for it in need]
     rank = chains(need, below, seconds)
     waits = {name: {it for it in below[name] if it in rank} for name in need}
@@ -38,7 +50,7 @@ def seconds_left(need, below, seconds, at_once):
         for name in ready[: at_once - len(running)]:
             left.discard(name)
             alone = not running and len(ready) == 1 and at_once > 1
-            heapq.heappush(running, (now + seconds[name] / (GAIN_OF_JOBS if alone else 1.0), name))
+            heapq.heappush(running, (now + seconds[name] / (gain if alone else 1.0), name))
         now, name = heapq.heappop(running)
         for it in waits.values():
             it.discard(name)
@@ -48,11 +60,11 @@ def seconds_left(need, below, seconds, at_once):
 class Progress:
     """Says after each crate how far the build is."""
 
-    def __init__(self, need, below, times, at_once):
-        self.need, self.below, self.at_once = need, below, at_once
+    def __init__(self, need, below, times, at_once, gain=1.0):
+        self.need, self.below, self.at_once, self.gain = [*need], below, at_once, gain
         self.seconds = {it: times.get(it, UNKNOWN_SECONDS) for it in need}
         self.done, self.used = [], 0.0
-        self.whole = seconds_left(need, below, self.seconds, at_once)
+        self.whole = seconds_left(need, below, self.seconds, at_once, gain)
 
     def pace(self):
         """How many times the seconds of the file the crates that are done have taken of a processor; 1 where they are too few."""
@@ -65,7 +77,11 @@ class Progress:
         """The seconds that are left, where each of these crates has been proved for so many seconds by one processor."""
         pace = self.pace()
         seconds = {it: max(each - running.get(it, 0.0) / pace, 0.0) for it, each in self.seconds.items()}
-        return pace * seconds_left([it for it in self.need if it not in self.done], self.below, seconds, self.at_once)
+        return pace * seconds_left([it for it in self.need if it not in self.done], self.below, seconds, self.at_once, self.gain)
+
+    def keep(self, name):
+        """Takes out a crate that was proved by an earlier build."""
+        self.need.remove(name)
 
     def after(self, name, so_far, used, running):
         """The line that is told when this crate is proved, so many seconds after the build began: it took so many seconds of processors, and

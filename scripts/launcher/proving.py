@@ -1,0 +1,123 @@
+"""How the kit's gate proves the program and the crates below it, several at once, in a copy of the checkout with nothing else."""
+import collections
+import contextlib
+import os
+import re
+import shutil
+import subprocess
+import sys
+import time
+
+from launcher import progress, sources
+
+# What `rt ci` reads of a crate for its proof and, of a program, for the run by which it tries it. Edits are left out: it would try them.
+PARTS = (*sources.PROVED_PARTS, "args", "stdin", "stdout", "status", "data")
+MEMORY_EACH_KB = 2_600_000
+LINES_SHOWN = 60
+CHECKER, TICKS = "rattle", os.sysconf("SC_CLK_TCK")
+# Where the fields of /proc/PID/stat stand behind the command's name: what the process took, and what its children took that have ended.
+USER, SYSTEM, CHILDREN_USER, CHILDREN_SYSTEM = 11, 12, 13, 14
+TOLD = re.compile(r"rt: (\w+) (?:(proved)|(is kept)\b.*|NOT PROVED\b.*)\n")
+
+
+def at_once():
+    """How many crates are proved at once: RT_JOBS, or one for each processor, as far as memory goes."""
+    jobs = os.environ.get("RT_JOBS", "")
+    if jobs.isdigit() and int(jobs):
+        return int(jobs)
+    with open("/proc/meminfo", encoding="ascii") as file:
+        free = next(int(line.split()[1]) for line in file if line.startswith("MemAvailable:"))
+    return max(1, min(len(os.sched_getaffinity(0)), free // MEMORY_EACH_KB))
+
+
+def copied(top, to):
+    """A copy of the program's crates, which rt takes for a repository of its own."""
+    need, lists = sources.crates_below(top)
+    os.makedirs(f"{to}/.git")
+    for name in need:
+        os.makedirs(f"{to}/crates/{name}")
+        for part in os.listdir(f"{top}/crates/{name}"):
+            here, there = f"{top}/crates/{name}/{part}", f"{to}/crates/{name}/{part}"
+            if part in PARTS:
+                (shutil.copytree if os.path.isdir(here) else shutil.copy)(here, there)
+    with open(f"{to}/crates.txt", "w", encoding="utf-8") as file:
+        file.writelines(f"{name}: {' '.join(lists[name])}\n" for name in need)
+    shutil.copy(f"{top}/HANDLES", to)
+    return need, lists
+
+
+def times_in(process):
+    """The fields of a process from its state on, or None where it is none of the kit's or is over."""
+    with contextlib.suppress(OSError):
+        with open(f"/proc/{process}/stat", encoding="utf-8", errors="replace") as file:
+            return file.read().rpartition(")")[2].split()
+    return None
+
+
+def seconds(fields, user, system):
+    return (int(fields[user]) + int(fields[system])) / TICKS if fields else 0.0
+
+
+def running(at):
+    """The seconds of processors that each crate has had of which a check runs in the copy."""
+    found = {}
+    for process in filter(str.isdigit, os.listdir("/proc")):
+        with contextlib.suppress(OSError):
+            folder = os.readlink(f"/proc/{process}/cwd")
+            if folder.startswith(f"{at}/crates/") and os.path.basename(os.readlink(f"/proc/{process}/exe")) == CHECKER:
+                name = folder[len(f"{at}/crates/") :].split("/")[0]
+                found[name] = found.get(name, 0.0) + seconds(times_in(process), USER, SYSTEM)
+    return found
+
+
+class Told:
+    """Follows what rt says, and tells on standard error how far it is."""
+
+    def __init__(self, at, need, lists, times):
+        self.at, self.began, self.used, self.failed = at, time.monotonic(), 0.0, None
+        self.progress = progress.Progress(need, lists, times, at_once())
+        self.last = collections.deque(maxlen=LINES_SHOWN)
+
+    def line(self, line, process):
+        """Takes one line of rt, which is this process."""
+        self.last.append(line)
+        found = TOLD.fullmatch(line)
+        if not found or found[1] not in self.progress.need:
+            return
+        if found[3]:
+            self.progress.keep(found[1])
+        elif found[2]:
+            used = seconds(times_in(process), CHILDREN_USER, CHILDREN_SYSTEM)
+            said = self.progress.after(found[1], time.monotonic() - self.began, used - self.used, running(self.at))
+            self.used = used
+            print(f"kaffe: {said}", file=sys.stderr, flush=True)
+        else:
+            self.failed = found[1]
+
+
+def prove(top, at):
+    """Has rt prove and build the program in a copy of its crates, which it makes at this place. Gives the path of the program, or None
+    where a crate is not proved or the program does not run; what rt said of it is printed."""
+    need, lists = copied(top, at)
+    told = Told(at, need, lists, progress.times_of(f"{top}/docs/gate-times"))
+    whole = progress.shown(told.progress.whole)
+    print(f"kaffe: {len(need)} crates, {at_once()} at once; about {whole} by docs/gate-times where none is kept", file=sys.stderr, flush=True)
+    how = {"cwd": at, "env": {**os.environ, "RT_JOBS": str(at_once())}, "stdin": subprocess.DEVNULL, "stderr": subprocess.STDOUT}
+    with subprocess.Popen(["rt", "ci"], stdout=subprocess.PIPE, text=True, errors="replace", **how) as ran:
+        try:
+            for line in ran.stdout:
+                told.line(line, ran.pid)
+                if told.failed:
+                    # (the crates that do not stand on it are of no use by themselves)
+                    ran.terminate()
+                    break
+        except BaseException:
+            ran.terminate()
+            raise
+    program = f"{at}/crates/{sources.PROGRAM}/out/{sources.PROGRAM}"
+    if ran.returncode == 0 and os.access(program, os.X_OK):
+        return program
+    print("".join(told.last), end="", file=sys.stderr)
+    if told.failed:
+        print(f"kaffe: {told.failed} is not proved; rt's last lines are above", file=sys.stderr)
+    return None
