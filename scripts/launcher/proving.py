@@ -9,14 +9,12 @@ import sys
 import time
 
 from launcher import progress, sources
+from launcher.processes import CHECKER, CHILDREN_SYSTEM, CHILDREN_USER, processes, seconds
 
 # What `rt ci` reads of a crate for its proof and, of a program, for the run by which it tries it. Edits are left out: it would try them.
 PARTS = (*sources.PROVED_PARTS, "args", "stdin", "stdout", "status", "data")
 MEMORY_EACH_KB = 2_600_000
 LINES_SHOWN = 60
-CHECKER, TICKS = "rattle", os.sysconf("SC_CLK_TCK")
-# Where the fields of /proc/PID/stat stand behind the command's name: what the process took, and what its children took that have ended.
-USER, SYSTEM, CHILDREN_USER, CHILDREN_SYSTEM = 11, 12, 13, 14
 TOLD = re.compile(r"rt: (\w+) (?:(proved)|(is kept)\b.*|NOT PROVED\b.*)\n")
 
 
@@ -46,28 +44,19 @@ def copied(top, to):
     return need, lists
 
 
-def times_in(process):
-    """The fields of a process from its state on, or None where it is none of the kit's or is over."""
-    with contextlib.suppress(OSError):
-        with open(f"/proc/{process}/stat", encoding="utf-8", errors="replace") as file:
-            return file.read().rpartition(")")[2].split()
-    return None
-
-
-def seconds(fields, user, system):
-    return (int(fields[user]) + int(fields[system])) / TICKS if fields else 0.0
-
-
-def running(at):
-    """The seconds of processors that each crate has had of which a check runs in the copy."""
-    found = {}
-    for process in filter(str.isdigit, os.listdir("/proc")):
-        with contextlib.suppress(OSError):
-            folder = os.readlink(f"/proc/{process}/cwd")
-            if folder.startswith(f"{at}/crates/") and os.path.basename(os.readlink(f"/proc/{process}/exe")) == CHECKER:
-                name = folder[len(f"{at}/crates/") :].split("/")[0]
-                found[name] = found.get(name, 0.0) + seconds(times_in(process), USER, SYSTEM)
-    return found
+def looked(at, process):
+    """The seconds of processors that the checks have had which this process began and which have ended; and for each crate of which a
+    check runs in the copy those that it has had."""
+    ended, found = 0.0, {}
+    for it, name, fields in processes():
+        if it.name == str(process):
+            ended = seconds(fields, CHILDREN_USER, CHILDREN_SYSTEM)
+        elif name == CHECKER:
+            with contextlib.suppress(OSError):
+                top, crate = os.path.split(os.readlink(it / "cwd"))
+                if top == f"{at}/crates":
+                    found[crate] = found.get(crate, 0.0) + seconds(fields)
+    return ended, found
 
 
 class Told:
@@ -87,8 +76,8 @@ class Told:
         if found[3]:
             self.progress.keep(found[1])
         elif found[2]:
-            used = seconds(times_in(process), CHILDREN_USER, CHILDREN_SYSTEM)
-            said = self.progress.after(found[1], time.monotonic() - self.began, used - self.used, running(self.at))
+            used, running = looked(self.at, process)
+            said = self.progress.after(found[1], time.monotonic() - self.began, used - self.used, running)
             self.used = used
             print(f"kaffe: {said}", file=sys.stderr, flush=True)
         else:
