@@ -14,18 +14,39 @@ from launcher.processes import CHECKER, CHILDREN_SYSTEM, CHILDREN_USER, processe
 # What `rt ci` reads of a crate for its proof and, of a program, for the run by which it tries it. Edits are left out: it would try them.
 PARTS = (*sources.PROVED_PARTS, "args", "stdin", "stdout", "status", "data")
 MEMORY_EACH_KB = 2_600_000
+# With so much free memory for each processor rt has as many proofs run at once by its own estimates, which are high.
+AMPLE_MEMORY_EACH_KB = 5_000_000
 LINES_SHOWN = 60
 TOLD = re.compile(r"rt: (\w+) (?:(proved)|(is kept)\b.*|NOT PROVED\b.*)\n")
 
 
+def free_memory():
+    """The kilobytes of memory that programs can have."""
+    with open("/proc/meminfo", encoding="ascii") as file:
+        return next(int(line.split()[1]) for line in file if line.startswith("MemAvailable:"))
+
+
+def wanted():
+    """The number that RT_JOBS has, or none."""
+    jobs = os.environ.get("RT_JOBS", "")
+    return int(jobs) if jobs.isdigit() and int(jobs) else None
+
+
 def at_once():
     """How many crates are proved at once: RT_JOBS, or one for each processor, as far as memory goes."""
-    jobs = os.environ.get("RT_JOBS", "")
-    if jobs.isdigit() and int(jobs):
-        return int(jobs)
-    with open("/proc/meminfo", encoding="ascii") as file:
-        free = next(int(line.split()[1]) for line in file if line.startswith("MemAvailable:"))
-    return max(1, min(len(os.sched_getaffinity(0)), free // MEMORY_EACH_KB))
+    return wanted() or max(1, min(len(os.sched_getaffinity(0)), free_memory() // MEMORY_EACH_KB))
+
+
+def rt_chooses():
+    """Whether rt is left to choose how many processors each proof gets, which it does where RT_JOBS has no number: one beside which no
+    other can begin gets those that are idle."""
+    return not wanted() and free_memory() >= AMPLE_MEMORY_EACH_KB * len(os.sched_getaffinity(0))
+
+
+def environment():
+    """The environment of rt."""
+    others = {name: value for name, value in os.environ.items() if name != "RT_JOBS"}
+    return others if rt_chooses() else {**others, "RT_JOBS": str(at_once())}
 
 
 def copied(top, to):
@@ -64,7 +85,7 @@ class Told:
 
     def __init__(self, at, need, lists, times):
         self.at, self.began, self.used, self.failed = at, time.monotonic(), 0.0, None
-        self.progress = progress.Progress(need, lists, times, at_once())
+        self.progress = progress.Progress(need, lists, times, at_once(), progress.GAIN_OF_JOBS if rt_chooses() else 1.0)
         self.last = collections.deque(maxlen=LINES_SHOWN)
 
     def line(self, line, process):
@@ -91,7 +112,7 @@ def prove(top, at):
     told = Told(at, need, lists, progress.times_of(f"{top}/docs/gate-times"))
     whole = progress.shown(told.progress.whole)
     print(f"kaffe: {len(need)} crates, {at_once()} at once; about {whole} by docs/gate-times where none is kept", file=sys.stderr, flush=True)
-    how = {"cwd": at, "env": {**os.environ, "RT_JOBS": str(at_once())}, "stdin": subprocess.DEVNULL, "stderr": subprocess.STDOUT}
+    how = {"cwd": at, "env": environment(), "stdin": subprocess.DEVNULL, "stderr": subprocess.STDOUT}
     with subprocess.Popen(["rt", "ci"], stdout=subprocess.PIPE, text=True, errors="replace", **how) as ran:
         try:
             for line in ran.stdout:
