@@ -3,8 +3,8 @@ import heapq
 
 # How much faster a crate is proved by several jobs than by one, where it is given them, and how long one takes that nobody has timed, in seconds.
 GAIN_OF_JOBS, UNKNOWN_SECONDS = 2.0, 60.0
-# Before so much of a build is done its own pace says too little, and beyond these factors it is not believed.
-PACE_FROM, PACE_LEAST, PACE_MOST = 0.05, 0.3, 10.0
+# How much of a build the times of the file stand for in its pace, and the factors beyond which no pace is believed.
+PART_OF_TIMES, PACE_LEAST, PACE_MOST = 0.01, 0.3, 10.0
 
 
 def times_of(path):
@@ -67,11 +67,10 @@ class Progress:
         self.whole = seconds_left(need, below, self.seconds, at_once, gain)
 
     def pace(self):
-        """How many times the seconds of the file the crates that are done have taken of a processor; 1 where they are too few."""
+        """How many times the seconds of the file this build takes of a processor, by the crates that are done: the more of them, the less the file counts."""
         planned = sum(self.seconds[it] for it in self.done)
-        if planned <= PACE_FROM * sum(self.seconds.values()):
-            return 1.0
-        return min(max(self.used / planned, PACE_LEAST), PACE_MOST)
+        given = PART_OF_TIMES * sum(self.seconds.values())
+        return min(max((self.used + given) / (planned + given), PACE_LEAST), PACE_MOST)
 
     def left(self, running):
         """The seconds that are left, where each of these crates has been proved for so many seconds by one processor."""
