@@ -37,16 +37,12 @@ def at_once():
     return wanted() or max(1, min(len(os.sched_getaffinity(0)), free_memory() // MEMORY_EACH_KB))
 
 
-def rt_chooses():
-    """Whether rt is left to choose how many processors each proof gets, which it does where RT_JOBS has no number: one beside which no
-    other can begin gets those that are idle."""
-    return not wanted() and free_memory() >= AMPLE_MEMORY_EACH_KB * len(os.sched_getaffinity(0))
-
-
 def environment():
-    """The environment of rt."""
+    """The environment of rt. Where RT_JOBS is not in it rt chooses how many processors each proof gets: one beside which no other can
+    begin gets those that are idle."""
     others = {name: value for name, value in os.environ.items() if name != "RT_JOBS"}
-    return others if rt_chooses() else {**others, "RT_JOBS": str(at_once())}
+    is_ample = free_memory() >= AMPLE_MEMORY_EACH_KB * len(os.sched_getaffinity(0))
+    return others if is_ample and not wanted() else {**others, "RT_JOBS": str(at_once())}
 
 
 def copied(top, to):
@@ -83,9 +79,9 @@ def looked(at, process):
 class Told:
     """Follows what rt says, and tells on standard error how far it is."""
 
-    def __init__(self, at, need, lists, times):
+    def __init__(self, at, of_build):
         self.at, self.began, self.used, self.failed = at, time.monotonic(), 0.0, None
-        self.progress = progress.Progress(need, lists, times, at_once(), progress.GAIN_OF_JOBS if rt_chooses() else 1.0)
+        self.progress = of_build
         self.last = collections.deque(maxlen=LINES_SHOWN)
 
     def line(self, line, process):
@@ -109,10 +105,12 @@ def prove(top, at):
     """Has rt prove and build the program in a copy of its crates, which it makes at this place. Gives the path of the program, or None
     where a crate is not proved or the program does not run; what rt said of it is printed."""
     need, lists = copied(top, at)
-    told = Told(at, need, lists, progress.times_of(f"{top}/docs/gate-times"))
+    many, env = at_once(), environment()
+    gain = 1.0 if "RT_JOBS" in env else progress.GAIN_OF_JOBS
+    told = Told(at, progress.Progress(need, lists, progress.times_of(f"{top}/docs/gate-times"), many, gain))
     whole = progress.shown(told.progress.whole)
-    print(f"kaffe: {len(need)} crates, {at_once()} at once; about {whole} by docs/gate-times where none is kept", file=sys.stderr, flush=True)
-    how = {"cwd": at, "env": environment(), "stdin": subprocess.DEVNULL, "stderr": subprocess.STDOUT}
+    print(f"kaffe: {len(need)} crates, {many} at once; about {whole} by docs/gate-times where none is kept", file=sys.stderr, flush=True)
+    how = {"cwd": at, "env": env, "stdin": subprocess.DEVNULL, "stderr": subprocess.STDOUT}
     with subprocess.Popen(["rt", "ci"], stdout=subprocess.PIPE, text=True, errors="replace", **how) as ran:
         try:
             for line in ran.stdout:
