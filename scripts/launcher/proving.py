@@ -1,4 +1,10 @@
-"""How the kit's gate proves the program and the crates below it, several at once, in a copy of the checkout with nothing else."""
+"""How the kit's gate proves the program and the crates below it, several at once, in a copy of the checkout with nothing else.
+
+`rt ci` gives each proof as many processors as no other proof waits for when it begins, and never more. So a long proof for which much
+waits keeps the one that it began with, and others are idle behind it. Where there is memory for it, several calls of rt therefore run at once:
+one proves the run and what it stands on, another the answers and what they stand on, and each takes from the kit's store what another
+has proved. The system shares the processors between them.
+"""
 import collections
 import contextlib
 import os
@@ -6,10 +12,11 @@ import re
 import shutil
 import subprocess
 import sys
+import threading
 import time
 
 from launcher import progress, sources
-from launcher.processes import CHECKER, CHILDREN_SYSTEM, CHILDREN_USER, processes, seconds
+from launcher.processes import CHECKER, CHILDREN_SYSTEM, CHILDREN_USER, PARENT, processes, seconds
 
 # What `rt ci` reads of a crate for its proof and, of a program, for the run by which it tries it. Edits are left out: it would try them.
 PARTS = (*sources.PROVED_PARTS, "args", "stdin", "stdout", "status", "data")
@@ -17,6 +24,8 @@ MEMORY_EACH_KB = 2_600_000
 # With so much free memory for each processor rt has as many proofs run at once by its own estimates, which are high.
 AMPLE_MEMORY_EACH_KB = 5_000_000
 LINES_SHOWN = 60
+# Each a call of rt that runs beside the others, for these crates and what they stand on: those on which all others stand, and the two long ways up.
+FIRST, RUN, ANSWERS = ("k_io", "k_types"), ("k_run",), ("k_answers",)
 TOLD = re.compile(r"rt: (\w+) (?:(proved)|(is kept)\b.*|NOT PROVED\b.*)\n")
 
 
@@ -42,7 +51,12 @@ def environment():
     begin gets those that are idle."""
     others = {name: value for name, value in os.environ.items() if name != "RT_JOBS"}
     is_ample = free_memory() >= AMPLE_MEMORY_EACH_KB * len(os.sched_getaffinity(0))
-    return others if is_ample and not wanted() else {**others, "RT_JOBS": str(at_once())}
+    return others if is_ample and not wanted() else one_each()
+
+
+def one_each():
+    """The environment in which rt gives each proof one processor."""
+    return {**os.environ, "RT_JOBS": str(at_once())}
 
 
 def copied(top, to):
@@ -61,44 +75,115 @@ def copied(top, to):
     return need, lists
 
 
-def looked(at, process):
-    """The seconds of processors that the checks have had which this process began and which have ended; and for each crate of which a
-    check runs in the copy those that it has had."""
-    ended, found = 0.0, {}
+def looked(calls):
+    """The seconds of processors that the checks have had which these calls of rt began and which have ended; and for each crate of which a
+    check runs those that it has had."""
+    ended, found, rts = 0.0, {}, {call.pid for call in calls}
     for it, name, fields in processes():
-        if it.name == str(process):
-            ended = seconds(fields, CHILDREN_USER, CHILDREN_SYSTEM)
-        elif name == CHECKER:
+        if int(it.name) in rts:
+            ended += seconds(fields, CHILDREN_USER, CHILDREN_SYSTEM)
+        elif name == CHECKER and int(fields[PARENT]) in rts:
             with contextlib.suppress(OSError):
-                top, crate = os.path.split(os.readlink(it / "cwd"))
-                if top == f"{at}/crates":
-                    found[crate] = found.get(crate, 0.0) + seconds(fields)
+                crate = os.path.basename(os.readlink(it / "cwd"))
+                found[crate] = found.get(crate, 0.0) + seconds(fields)
     return ended, found
 
 
-class Told:
-    """Follows what rt says, and tells on standard error how far it is."""
+class Build:
+    """The calls of rt that prove and build the program in one copy of its crates. It follows what they say, and tells on standard error how
+    far it is."""
 
     def __init__(self, at, of_build):
-        self.at, self.began, self.used, self.failed = at, time.monotonic(), 0.0, None
-        self.progress = of_build
-        self.last = collections.deque(maxlen=LINES_SHOWN)
+        self.at, self.progress = at, of_build
+        self.began, self.used = time.monotonic(), 0.0
+        self.calls, self.last, self.turn = [], collections.deque(maxlen=LINES_SHOWN), threading.Lock()
+        # The crates that were told of, each with whether it was proved now; the one that is not proved, if one is not.
+        self.told, self.failed = {}, None
+        # Whether calls take what others have proved, what RUN stands on, and that this is proved, or that calls have ended before.
+        self.is_shared, self.below_run, self.is_near = True, None, threading.Event()
 
-    def line(self, line, process):
-        """Takes one line of rt, which is this process."""
+    def begin(self, names, env):
+        """Begins a call of rt for these crates and what they stand on, or for all, and gives the call."""
+        # (rt copies the crates for a call with names)
+        how = {"cwd": self.at, "env": {**env, "TMPDIR": os.path.dirname(self.at)}, "stdin": subprocess.DEVNULL, "stderr": subprocess.STDOUT}
+        call = subprocess.Popen(["rt", "ci", *names], stdout=subprocess.PIPE, text=True, errors="replace", **how)
+        self.calls.append(call)
+        return call
+
+    def follow(self, call):
+        """Reads what a call says, until it ends."""
+        with call.stdout:
+            for line in call.stdout:
+                with self.turn:
+                    self.take(line)
+        if call.wait():
+            self.is_near.set()
+
+    def take(self, line):
+        """Takes one line that a call has said."""
         self.last.append(line)
         found = TOLD.fullmatch(line)
         if not found or found[1] not in self.progress.need:
             return
-        if found[3]:
-            self.progress.keep(found[1])
-        elif found[2]:
-            used, running = looked(self.at, process)
-            said = self.progress.after(found[1], time.monotonic() - self.began, used - self.used, running)
+        crate, is_proved, is_kept = found[1], bool(found[2]), bool(found[3])
+        if crate in self.told:
+            if is_proved and self.told[crate]:
+                self.go_alone()
+        elif is_proved:
+            used, running = looked(self.calls)
+            said = self.progress.after(crate, time.monotonic() - self.began, used - self.used, running)
             self.used = used
             print(f"kaffe: {said}", file=sys.stderr, flush=True)
+        elif is_kept:
+            self.progress.keep(crate)
+            if crate in FIRST:
+                # (an earlier build proved most, and one call gives that quickest)
+                self.go_alone()
         else:
-            self.failed = found[1]
+            # (the crates that do not stand on it are of no use by themselves)
+            self.failed = crate
+            self.end()
+        self.told.setdefault(crate, is_proved)
+        if self.below_run and self.below_run <= {*self.told}:
+            self.is_near.set()
+
+    def go_alone(self):
+        """Ends the calls beside each other, so that one call does all."""
+        if self.is_shared:
+            self.is_shared = False
+            self.end()
+
+    def end(self):
+        """Ends the calls that still run."""
+        for call in self.calls:
+            call.terminate()
+        self.is_near.set()
+
+    def beside(self, lists, env):
+        """Begins the calls that run beside each other, and gives their threads once all is proved that RUN stands on, or they have ended before."""
+        self.below_run = {*sources.with_below(lists, *RUN)} - {*RUN}
+        calls = [self.begin(names, each) for names, each in ((FIRST, env), (RUN, env), (ANSWERS, one_each()))]
+        threads = [threading.Thread(target=self.follow, args=(call,)) for call in calls]
+        for it in threads:
+            it.start()
+        self.is_near.wait()
+        return threads
+
+    def whole(self, need, lists, env):
+        """Proves and builds the program, and gives whether that went well."""
+        is_ample, threads = "RT_JOBS" not in env, []
+        try:
+            if is_ample and {*FIRST, *RUN, *ANSWERS} <= {*need}:
+                threads = self.beside(lists, env)
+            if self.failed:
+                return False
+            call = self.begin([], env)
+            self.follow(call)
+            return not call.returncode
+        finally:
+            self.end()
+            for it in threads:
+                it.join()
 
 
 def prove(top, at):
@@ -107,25 +192,13 @@ def prove(top, at):
     need, lists = copied(top, at)
     many, env = at_once(), environment()
     gain = 1.0 if "RT_JOBS" in env else progress.GAIN_OF_JOBS
-    told = Told(at, progress.Progress(need, lists, progress.times_of(f"{top}/docs/gate-times"), many, gain))
-    whole = progress.shown(told.progress.whole)
+    build = Build(at, progress.Progress(need, lists, progress.times_of(f"{top}/docs/gate-times"), many, gain))
+    whole = progress.shown(build.progress.whole)
     print(f"kaffe: {len(need)} crates, {many} at once; about {whole} by docs/gate-times where none is kept", file=sys.stderr, flush=True)
-    how = {"cwd": at, "env": env, "stdin": subprocess.DEVNULL, "stderr": subprocess.STDOUT}
-    with subprocess.Popen(["rt", "ci"], stdout=subprocess.PIPE, text=True, errors="replace", **how) as ran:
-        try:
-            for line in ran.stdout:
-                told.line(line, ran.pid)
-                if told.failed:
-                    # (the crates that do not stand on it are of no use by themselves)
-                    ran.terminate()
-                    break
-        except BaseException:
-            ran.terminate()
-            raise
     program = f"{at}/crates/{sources.PROGRAM}/out/{sources.PROGRAM}"
-    if ran.returncode == 0 and os.access(program, os.X_OK):
+    if build.whole(need, lists, env) and os.access(program, os.X_OK):
         return program
-    print("".join(told.last), end="", file=sys.stderr)
-    if told.failed:
-        print(f"kaffe: {told.failed} is not proved; rt's last lines are above", file=sys.stderr)
+    print("".join(build.last), end="", file=sys.stderr)
+    if build.failed:
+        print(f"kaffe: {build.failed} is not proved; rt's last lines are above", file=sys.stderr)
     return None

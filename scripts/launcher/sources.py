@@ -17,6 +17,11 @@ def crates_below(top, name=PROGRAM):
             crate, colon, below = line.partition("#")[0].partition(":")
             if colon:
                 lists[crate.split()[0]] = below.split()
+    return with_below(lists, name), lists
+
+
+def with_below(lists, name):
+    """By these lists the crates on which this one stands, and itself, each after those that it stands on."""
     found = []
 
     def add(crate):
@@ -26,7 +31,7 @@ def crates_below(top, name=PROGRAM):
         found.append(crate)
 
     add(name)
-    return found, lists
+    return found
 
 
 def files_of(top, parts):
