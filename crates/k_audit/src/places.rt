@@ -3,7 +3,7 @@
 use k_types::Name;
 
 /// How far a reading has come: the section in which the next line stands, and what it may not come before.
-#[derive(Clone, Copy, Debug)]
+#[derive(Clone, Copy)]
 pub enum Place {
     /// Nothing is read.
     Start,

@@ -1,5 +1,5 @@
 //! The snapshot that bytes are.
-ghost use Rattle.std.specs.Prelude.{◌≡◌, ◌<◌, ◌-◌, ◌^◌, ◌==◌, [], Some, length, drop};
+ghost use Rattle.std.specs.Prelude.{◌≡◌, ◌<◌, ◌-◌, ◌^◌, ◌==◌, [], Some, Ok, Err, IfOk, IfErr, length, drop};
 ghost use Rattle.k_state.specs.Machines.{AreSetupRules};
 ghost use Rattle.k_types.specs.Trace.{process_count, trace_of};
 ghost use Rattle.k_text.specs.Named.{AreNamed};
@@ -67,6 +67,40 @@ impl Reader {
             Place::Over => Ok(false),
         }
     }
+
+    /// Takes all lines that the bytes are, and says which one does not fit, is missing, has no line feed or is too many.
+    fn take_lines(
+        &mut self,
+        alloc: Global,
+        setup: &Setup,
+        names: &Names,
+        bytes: &[u8],
+    ) -> Result<(), SnapshotError>
+        requires named { AreNamed names.now (trace_of setup.now [] []) }
+        requires rules { AreSetupRules (trace_of setup.now [] []) }
+        requires sized { length self.old.snap.state.registers ≡ process_count (trace_of setup.now [] []) }
+        requires few { length bytes.now < 2 ^ 32 - 1 }
+        ensures fits { IfOk result (λ _. read_lines names.now (trace_of setup.now [] []) (is_whole bytes.now) (Some self.old) 1 (fed_lines bytes.now) ≡ Ok self.new.snap) }
+        ensures refused { IfErr result (λ e. ReadsSnap (Err e) (read_lines names.now (trace_of setup.now [] []) (is_whole bytes.now) (Some self.old) 1 (fed_lines bytes.now))) }
+    {
+        let mut rest = bytes;
+        let mut number: u32 = 1;
+        while !rest.is_empty() {
+            let end = find(rest, b'\n');
+            if end >= rest.len() {
+                return Err(SnapshotError::Bad(number));
+            }
+            if !self.take_line(alloc, setup, names, &rest[..end])? {
+                return Err(SnapshotError::Bad(number));
+            }
+            number += 1;
+            rest = &rest[end + 1..];
+        }
+        if !is_over(self.place) {
+            return Err(SnapshotError::Bad(number));
+        }
+        Ok(())
+    }
 }
 
 /// The snapshot that the bytes are, over the header of a trace.
@@ -87,25 +121,9 @@ pub fn read_snapshot(
     ensures { ReadsSnap result (read_lines names.now (trace_of setup.now [] []) (is_whole bytes.now) (Some (unread (trace_of setup.now [] []))) 1 (fed_lines bytes.now)) }
 {
     let mut reader = Reader::unread(alloc, setup)?;
-    let mut rest = bytes;
-    let mut number: u32 = 1;
-    while !rest.is_empty() {
-        let end = find(rest, b'\n');
-        if end >= rest.len() {
-            return Err(SnapshotError::Bad(number));
-        }
-        if !reader.take_line(alloc, setup, names, &rest[..end])? {
-            return Err(SnapshotError::Bad(number));
-        }
-        number += 1;
-        rest = &rest[end + 1..];
-    }
-    if is_over(reader.place) {
-        Ok(Snapshot {
-            state: reader.state,
-            claims: reader.claims,
-        })
-    } else {
-        Err(SnapshotError::Bad(number))
-    }
+    reader.take_lines(alloc, setup, names, bytes)?;
+    Ok(Snapshot {
+        state: reader.state,
+        claims: reader.claims,
+    })
 }

@@ -1,5 +1,6 @@
 -- Places that fill up.
 use Rattle.std.proofs.Common.{◌≡◌, ℕ, zero, suc, ◌+◌, ◌<◌, ◌≤◌, List, [], ◌∷◌, ◌++◌, length, map, set, get_or, Some, None, Option, slice_get, replicate, refl, sym, ap, ◌∙◌, subst, arith}
+use Rattle.std.proofs.lemmas.List.{replicate-append-replicate}
 use Rattle.std.proofs.lemmas.Option.{slice_get_read}
 use Rattle.k_run.specs.Places.{filled, one_if_some}
 
@@ -55,3 +56,7 @@ mapped_push f (y ∷ xs) x = ap (λ ys. f y ∷ ys) (mapped_push f xs x)
 pub mapped_all : {A : Type 0} (xs : List A) → map (λ x. x) xs ≡ xs
 mapped_all [] = refl
 mapped_all (y ∷ xs) = ap (λ ys. y ∷ ys) (mapped_all xs)
+
+-- one free place more
+pub one_more_free : {A : Type 0} (n : ℕ) (xs ys : List (Option A)) → xs ≡ replicate n None → ys ≡ xs ++ None ∷ [] → ys ≡ replicate (n + 1) None
+one_more_free n xs ys free pushed = pushed ∙ ap (λ (zs : List (Option _)). zs ++ None ∷ []) free ∙ replicate-append-replicate n 1 None

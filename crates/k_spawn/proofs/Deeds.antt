@@ -1,19 +1,19 @@
 -- The tests of a line that is no header line.
-use Rattle.std.proofs.Common.{◌≡◌, ◌∙◌, ℕ, ◌+◌, ◌&&◌, not, nat_le, nat_lt, List, [], ◌∷◌, ◌++◌, Bool, true, false, cond, Some, None, Ok, Err, refl, sym, ap, subst, arith, length}
+use Rattle.std.proofs.Common.{◌≡◌, ◌∙◌, ℕ, ◌+◌, ◌&&◌, not, nat_le, nat_lt, ◌==◌, List, [], ◌∷◌, ◌++◌, Bool, true, false, cond, Some, None, Ok, Err, refl, sym, ap, subst, arith, length}
 use Rattle.std.proofs.lemmas.Bool.{false≢true, lt-ltb}
 use Rattle.std.proofs.lemmas.List.{length-append}
 use Rattle.k_types.specs.declared.names.Pid.{Pid}
-use Rattle.k_trace.specs.Words.{Text}
-use Rattle.k_trace.specs.Names.{declares, number_of}
+use Rattle.k_trace.specs.Words.{Text, word_at}
+use Rattle.k_trace.specs.Names.{declares, is_name, number_of}
 use Rattle.k_trace.specs.declared.place.Place.{Place}
-use Rattle.k_trace.specs.declared.place.Place.TheVariants.{Version, Operations}
+use Rattle.k_trace.specs.declared.place.Place.TheVariants.{Version, Procs, Operations}
 use Rattle.k_trace.specs.declared.reasons.Reason.TheVariants.{Undeclared, TooMany, AfterExit}
 use Rattle.k_spawn.specs.declared.reasons.ScriptReason.TheVariants.{OfTrace, Stranger, Untimely}
 use Rattle.k_spawn.specs.declared.script.Deed.{Deed}
 use Rattle.k_spawn.specs.Reasons.{demands}
-use Rattle.k_spawn.specs.Scripts.{Script, family, process_names}
+use Rattle.k_spawn.specs.Scripts.{Script, family, limit_names, process_names}
 use Rattle.k_spawn.specs.Timely.{weight, has_left, operations_so_far, is_of_parent, is_running, is_due}
-use Rattle.k_spawn.specs.Judgement.{Judged, deed_line, leads, with_line}
+use Rattle.k_spawn.specs.Judgement.{Judged, child_line, deed_line, is_child_word, leads, with_child, with_line}
 use Rattle.k_spawn.specs.Courses.{with_deed}
 use Rattle.k_spawn.specs.declared.script.ScriptLine.{ScriptLine}
 use Rattle.k_spawn.specs.Outcome.{ReaderState, IsReader, place_now, process_of_name, so_far}
@@ -22,6 +22,15 @@ use Rattle.k_spawn.specs.Outcome.{ReaderState, IsReader, place_now, process_of_n
 named_is : (b : Bool) (n : ℕ) (pid : Pid) → Some pid ≡ cond b (Some (record { 0 = n })) None → (b ≡ true) × (n ≡ pid.0)
 named_is true n pid e = (refl, let same : pid ≡ record { 0 = n } = cc in sym (ap (λ (p : Pid). p.0) same))
 named_is false n pid e = absurd cc
+
+-- the line of a child passes its tests
+pub child_fits : (s : Script) (ws : List Text) (pid : Pid) → (length ws == 3) ≡ true → is_name (word_at ws 1) ≡ true → is_child_word (word_at ws 1) ≡ false
+    → declares (process_names s) (word_at ws 1) ≡ false → declares (limit_names s) (word_at ws 1) ≡ false → Some pid ≡ process_of_name s (word_at ws 2)
+    → nat_lt (length (process_names s)) 64 ≡ true → nat_lt (length (limit_names s)) 128 ≡ true → child_line s ws ≡ leads Procs (with_child s (word_at ws 1) pid.0)
+unfolding child_line demands
+child_fits s ws pid form name word process limit parent few fewer =
+    let known = named_is (declares (process_names s) (word_at ws 2)) (number_of (process_names s) (word_at ws 2)) pid parent in
+    rw (form, name, word, process, limit, known.0, known.1, few, fewer) refl
 
 module _ (s : Script) (name : Text) (deed : Deed) (pid : Pid) (named : Some pid ≡ process_of_name s name) where
   -- the line by the answers to its tests

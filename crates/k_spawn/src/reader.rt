@@ -1,11 +1,13 @@
 //! What the lines so far say, and the step to the next line.
-ghost use Rattle.std.specs.Prelude.{◌≡◌, ◌<◌, ◌+◌, length, true, IfSome, IfOk, OnOk};
-ghost use Rattle.k_trace.specs.Words.{words_of};
+ghost use Rattle.std.specs.Prelude.{ℕ, ◌≡◌, ◌<◌, ◌+◌, List, Some, length, map, true, Err, IfSome, IfOk, IfErr, IsFalse, OnOk};
+ghost use Rattle.std.specs.List.{AllByRecursion};
+ghost use Rattle.k_trace.specs.Names.{declares};
+ghost use Rattle.k_trace.specs.Words.{word_at, words_of};
 ghost use Rattle.k_trace.specs.Judgement.{has_process};
 ghost use Rattle.k_spawn.specs.declared.errors.ScriptLineError.TheVariants.{Bad};
 ghost use Rattle.k_spawn.specs.declared.reasons.ScriptReason.TheVariants.{OfTrace};
-ghost use Rattle.k_spawn.specs.Courses.{IsDeedOf};
-ghost use Rattle.k_spawn.specs.Judgement.{start, is_child_word, version_line, header_line, child_line, spawn_form, reap_form, deed_of, deed_line, operation_line, later_line, line_of_procs, line_in, judged_line};
+ghost use Rattle.k_spawn.specs.Courses.{IsDeedOf, reaped_by};
+ghost use Rattle.k_spawn.specs.Judgement.{start, is_child_word, version_line, header_line, child_line, leads, with_child, spawn_form, reap_form, deed_of, deed_line, operation_line, later_line, line_of_procs, line_in, judged_line};
 ghost use Rattle.k_spawn.specs.Outcome.{IsJudged, IsReader, IsAlsoRefused, IsHeaderPlace, IsOfHeader, place_now, process_of_name, so_far};
 ghost use Rattle.k_spawn.specs.Scripts.{process_names};
 
@@ -177,33 +179,50 @@ impl ScriptReader {
         Ok(())
     }
 
+    /// The parent that the line of a child names, where nothing is wrong with the line.
     #[tactic(auto, unfolding(crate::specs::Judgement::child_line, crate::specs::Reasons::demands))]
+    fn parent_in(&self, line: &[u8]) -> Result<Pid, Reason>
+        requires ready { IsReader self.now }
+        ensures good { IfOk result (λ parent. child_line (so_far self.now).said (words_of line.now) ≡ leads Place.Procs (with_child (so_far self.now).said (word_at (words_of line.now) 1) parent.0)) }
+        ensures bad { IfErr result (λ reason. child_line (so_far self.now).said (words_of line.now) ≡ Err (OfTrace reason)) }
+        ensures new { IfOk result (λ _. IsFalse (declares self.now.child_names (word_at (words_of line.now) 1))) }
+        ensures few { IfOk result (λ _. self.now.course.family.first + length self.now.course.family.parents < 64) }
+        ensures known { IfOk result (λ parent. parent.0 < self.now.course.family.first + length self.now.course.family.parents) }
+    {
+        if word_count(line) != 3 {
+            return Err(Reason::NoForm);
+        }
+        let name = word(line, 1);
+        if !is_name(name) || is_child_word(name) {
+            return Err(Reason::NoName);
+        }
+        if self.process_named(name).is_some() || self.header.names().limit_named(name).is_some() {
+            return Err(Reason::NameTaken);
+        }
+        let Some(parent) = self.process_named(word(line, 2)) else {
+            return Err(Reason::Undeclared);
+        };
+        let limits = self.header.names().limit_count() + self.course.child_count();
+        if self.process_count() >= MOST_PROCESSES || limits >= MOST_LIMITS {
+            return Err(Reason::TooMany);
+        }
+        Ok(parent)
+    }
+
     fn child_line(&mut self, alloc: Global, line: &[u8]) -> Result<(), ScriptLineError>
         requires ready { IsReader self.old }
         requires place { place_now self.old ≡ Place.Procs }
         ensures judged { IsJudged result (so_far self.new) (child_line (so_far self.old).said (words_of line.now)) }
         ensures ready { OnOk result (IsReader self.new) }
     {
-        if word_count(line) != 3 {
-            return Err(bad(Reason::NoForm));
+        match self.parent_in(line) {
+            Ok(parent) => {
+                self.child_names.declare(alloc, word(line, 1))?;
+                self.course.add_child(parent)?;
+                Ok(())
+            }
+            Err(reason) => Err(bad(reason)),
         }
-        let name = word(line, 1);
-        if !is_name(name) || is_child_word(name) {
-            return Err(bad(Reason::NoName));
-        }
-        if self.process_named(name).is_some() || self.header.names().limit_named(name).is_some() {
-            return Err(bad(Reason::NameTaken));
-        }
-        let Some(parent) = self.process_named(word(line, 2)) else {
-            return Err(bad(Reason::Undeclared));
-        };
-        let limits = self.header.names().limit_count() + self.course.child_count();
-        if self.process_count() >= MOST_PROCESSES || limits >= MOST_LIMITS {
-            return Err(bad(Reason::TooMany));
-        }
-        self.child_names.declare(alloc, name)?;
-        self.course.add_child(parent)?;
-        Ok(())
     }
 
     #[tactic(auto, unfolding(crate::specs::Judgement::spawn_form, k_trace::specs::Demands::demands))]
@@ -262,6 +281,34 @@ impl ScriptReader {
         }
     }
 
+    /// Adds the line of a deed of that process, where its time has come and there is room. The list is whom the deed reaps.
+    #[tactic(auto, unfolding(crate::specs::Judgement::deed_line, crate::specs::Reasons::demands))]
+    fn push_deed(&mut self, pid: Pid, deed: Deed, reaped: &[Pid]) -> Result<(), ScriptLineError>
+        requires ready { IsReader self.old }
+        requires begun { self.old.begun ≡ true }
+        requires known { IsDeedOf self.old.course.family deed }
+        requires process { pid.0 < 64 }
+        requires list { map (λ it. it.0) reaped.now ≡ reaped_by self.old.course.family deed }
+        requires few { AllByRecursion (λ p. p < 64) (map (λ it. it.0) reaped.now) }
+        ensures judged { (name : List ℕ) → Some pid ≡ process_of_name (so_far self.old).said name → IsJudged result (so_far self.new) (deed_line (so_far self.old).said name deed) }
+        ensures ready { OnOk result (IsReader self.new) }
+    {
+        if weight_of(deed, reaped) > MOST_OPERATIONS - self.course.operation_count() {
+            return Err(bad(Reason::TooMany));
+        }
+        if self.course.has_left(pid) {
+            return Err(bad(Reason::AfterExit));
+        }
+        if !self.course.is_of_parent(pid, deed) {
+            return Err(ScriptLineError::Bad(ScriptReason::Stranger));
+        }
+        if !self.course.is_running(pid) || !self.course.is_due(deed) {
+            return Err(ScriptLineError::Bad(ScriptReason::Untimely));
+        }
+        self.course.push(pid, deed, reaped)?;
+        Ok(())
+    }
+
     #[tactic(auto, unfolding(crate::specs::Judgement::deed_line, crate::specs::Reasons::demands))]
     fn deed_line(&mut self, alloc: Global, name: &[u8], deed: Deed) -> Result<(), ScriptLineError>
         requires ready { IsReader self.old }
@@ -274,20 +321,7 @@ impl ScriptReader {
             return Err(bad(Reason::Undeclared));
         };
         let reaped = self.course.reaped_by(alloc, deed)?;
-        if weight_of(deed, &reaped) > MOST_OPERATIONS - self.course.operation_count() {
-            return Err(bad(Reason::TooMany));
-        }
-        if self.course.has_left(pid) {
-            return Err(bad(Reason::AfterExit));
-        }
-        if !self.course.is_of_parent(pid, deed) {
-            return Err(ScriptLineError::Bad(ScriptReason::Stranger));
-        }
-        if !self.course.is_running(pid) || !self.course.is_due(deed) {
-            return Err(ScriptLineError::Bad(ScriptReason::Untimely));
-        }
-        self.course.push(pid, deed, &reaped)?;
-        Ok(())
+        self.push_deed(pid, deed, &reaped)
     }
 
     #[tactic(auto, unfolding(crate::specs::Judgement::operation_line))]

@@ -12,11 +12,11 @@ use Rattle.k_types.specs.declared.setup.LimitRow.{LimitRow}
 use Rattle.k_types.specs.Bounds.{maximum_below}
 use Rattle.k_types.specs.Known.{IsKnownPhase}
 use Rattle.k_types.specs.Limits.{max_of}
-use Rattle.k_types.specs.State.{Content, ExitItem, Object, Refers, Scan, Sharing, opening}
+use Rattle.k_types.specs.State.{Content, ExitItem, Object, Refers, Sharing, State, opening}
 use Rattle.k_types.specs.Sound.{AreNumbered}
 use Rattle.k_frame.proofs.Sizes.{opening_sized}
-use Rattle.k_types.specs.Trace.{Trace, segment_count}
-use Rattle.k_state.specs.Machines.{AreSetupRules, AreTotals, IsKept, IsPlain, Machine}
+use Rattle.k_types.specs.Trace.{Trace}
+use Rattle.k_state.specs.Machines.{AreSetupRules, IsPlain}
 
 unmade_known : (setup : Trace) (n : ℕ) → AllByRecursion (IsKnownPhase setup) (replicate n Unmade)
 unmade_known setup zero = tt
@@ -34,7 +34,7 @@ opening_is_numbered setup n there =
       | inr t ↦ absurd (false≢true t)
     ]
 
-opening_is_plain : (setup : Trace) → AreSetupRules setup → IsPlain (record { setup = setup; state = opening setup })
+pub opening_is_plain : (setup : Trace) → AreSetupRules setup → IsPlain (record { setup = setup; state = opening setup })
 opening_is_plain setup rules = record {
   setup = rules;
   sized = opening_sized setup;
@@ -46,55 +46,22 @@ opening_is_plain setup rules = record {
   maxima = small_maxima setup.limits rules.limits.small;
 }
 
--- with the bytes of each segment beside
-opening_is_kept : (setup : Trace) (totals : List ℕ) → AreSetupRules setup → length totals ≡ segment_count setup → AreTotals (opening setup).objects totals →
-    IsKept (record { setup = setup; state = opening setup }) totals
-opening_is_kept setup totals rules counted are = record { plain = opening_is_plain setup rules; counted = counted; bytes = are }
-
--- what has the lists of the opening state has its shape
-pub opening_from : (setup setup' : Trace) (objects : List Object) (made : List ℕ) (registers : List (List (Option Name))) (done : List ℕ)
-    (exits : List ExitItem) (shares : List Sharing) (phases : List Phase) (ended : List ℕ) (scans : List Scan) (maxima totals : List ℕ) → AreSetupRules setup' →
-    setup ≡ setup' → objects ≡ (opening setup').objects → made ≡ (opening setup').made → registers ≡ (opening setup').registers → done ≡ (opening setup').done →
-    exits ≡ [] → shares ≡ [] → phases ≡ (opening setup').phases → ended ≡ [] → scans ≡ [] → maxima ≡ (opening setup').maxima →
-    length totals ≡ segment_count setup' → AreTotals (opening setup').objects totals →
-    IsKept (record {
-      setup = setup;
-      state = record {
-        objects = objects;
-        made = made;
-        registers = registers;
-        done = done;
-        exits = exits;
-        shares = shares;
-        phases = phases;
-        ended = ended;
-        scans = scans;
-        closed = false;
-        maxima = maxima;
-      };
-    }) totals
-opening_from setup setup' objects made registers done exits shares phases ended scans maxima totals rules a b d e f g h i j k l counted are =
-    rw (a, b, d, e, f, g, h, i, j, k, l) (opening_is_kept setup' totals rules counted are)
-
--- and is that state
-pub opening_shown : (setup setup' : Trace) (objects : List Object) (made : List ℕ) (registers : List (List (Option Name))) (done : List ℕ)
-    (exits : List ExitItem) (shares : List Sharing) (phases : List Phase) (ended : List ℕ) (scans : List Scan) (maxima : List ℕ) →
-    setup ≡ setup' → objects ≡ (opening setup').objects → made ≡ (opening setup').made → registers ≡ (opening setup').registers → done ≡ (opening setup').done →
-    exits ≡ [] → shares ≡ [] → phases ≡ (opening setup').phases → ended ≡ [] → scans ≡ [] → maxima ≡ (opening setup').maxima →
-    ◌≡◌ {A = Machine} (record {
-      setup = setup;
-      state = record {
-        objects = objects;
-        made = made;
-        registers = registers;
-        done = done;
-        exits = exits;
-        shares = shares;
-        phases = phases;
-        ended = ended;
-        scans = scans;
-        closed = false;
-        maxima = maxima;
-      };
-    }) (record { setup = setup'; state = opening setup' })
-opening_shown setup setup' objects made registers done exits shares phases ended scans maxima a b d e f g h i j k l = rw (a, b, d, e, f, g, h, i, j, k, l) refl
+-- what has the lists of the opening state is that state
+pub opening_shown : (setup : Trace) (objects : List Object) (made : List ℕ) (registers : List (List (Option Name))) (done : List ℕ)
+    (exits : List ExitItem) (shares : List Sharing) (phases : List Phase) (ended : List ℕ) (maxima : List ℕ) →
+    objects ≡ (opening setup).objects → made ≡ (opening setup).made → registers ≡ (opening setup).registers → done ≡ (opening setup).done →
+    exits ≡ [] → shares ≡ [] → phases ≡ (opening setup).phases → ended ≡ [] → maxima ≡ (opening setup).maxima →
+    ◌≡◌ {A = State} (record {
+      objects = objects;
+      made = made;
+      registers = registers;
+      done = done;
+      exits = exits;
+      shares = shares;
+      phases = phases;
+      ended = ended;
+      scans = [];
+      closed = false;
+      maxima = maxima;
+    }) (opening setup)
+opening_shown setup objects made registers done exits shares phases ended maxima b d e f g h i j l = rw (b, d, e, f, g, h, i, j, l) refl

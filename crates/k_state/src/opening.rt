@@ -1,15 +1,14 @@
 //! The state with which a trace begins.
 ghost use Rattle.std.specs.Prelude.{◌≡◌, ◌≤◌, [], ◌∷◌, IfOk, None, map, replicate, length};
-ghost use Rattle.k_state.specs.Machines.{AreSetupRules, Machine};
+ghost use Rattle.k_state.specs.Machines.{AreSetupRules};
 ghost use Rattle.k_types.specs.Names.{directory};
 ghost use Rattle.k_types.specs.State.{opening, Refers};
 ghost use Rattle.k_types.specs.Trace.{trace_of};
 
-use crate::exits::Exits;
 use crate::lists::PlainLists;
 use crate::objects::{FieldValue, PlainObject};
 use crate::registers::Registers;
-use crate::segments::Segments;
+use crate::stills::StillState;
 use k_types::{LimitRow, Name, NoMemory, Phase, Seg, Serial, Setup};
 use std::alloc::Global;
 
@@ -19,24 +18,35 @@ impl PlainLists {
         requires { AreSetupRules (trace_of setup.now [] []) }
         ensures { IfOk result (λ s. s ≡ record { setup = trace_of setup.now [] []; state = opening (trace_of setup.now [] []) }) }
     {
-        let procs = setup.procs.len();
-        let shared = setup.shared as usize;
-        let objects = first_objects(alloc, setup.dir_fields as usize)?;
-        Ok(PlainLists {
-            setup: copy_of(alloc, setup)?,
-            segments: Segments::of(alloc, 1 + procs + shared, objects)?,
-            made: first_counts(alloc, procs + shared)?,
-            registers: null_registers(alloc, procs)?,
-            done: vec![in alloc; 0; procs]?,
-            exits: Exits::none(alloc),
-            shares: Vec::new(alloc),
-            phases: vec![in alloc; Phase::Unmade; shared]?,
-            ended: Vec::new(alloc),
-            scans: Vec::new(alloc),
-            closed: false,
-            maxima: maxima_of(alloc, &setup.limits)?,
-        })
+        let state = opening_state(alloc, setup)?;
+        PlainLists::of(alloc, setup, state)
     }
+}
+
+// The lists of the opening state.
+fn opening_state(alloc: Global, setup: &Setup) -> Result<StillState, NoMemory>
+    requires { AreSetupRules (trace_of setup.now [] []) }
+    ensures { IfOk result (λ s. s ≡ opening (trace_of setup.now [] [])) }
+{
+    let procs = setup.procs.len();
+    let shared = setup.shared as usize;
+    let objects = first_objects(alloc, setup.dir_fields as usize)?;
+    let made = first_counts(alloc, procs + shared)?;
+    let phases = vec![in alloc; Phase::Unmade; shared]?;
+    let maxima = maxima_of(alloc, &setup.limits)?;
+    let registers = null_registers(alloc, procs)?;
+    let done = vec![in alloc; 0; procs]?;
+    Ok(StillState {
+        objects,
+        made,
+        registers,
+        done,
+        exits: Vec::new(alloc),
+        shares: Vec::new(alloc),
+        phases,
+        ended: Vec::new(alloc),
+        maxima,
+    })
 }
 
 pub(crate) fn copy_of(alloc: Global, setup: &Setup) -> Result<Setup, NoMemory>

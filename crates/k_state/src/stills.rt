@@ -1,8 +1,10 @@
 //! A state that is given part by part, in which nothing is done, scanned or closed.
-ghost use Rattle.std.specs.Prelude.{◌≡◌, ◌<◌, ◌++◌, ◌∷◌, [], Some, IfOk, OnErr, OnOk, length};
-ghost use Rattle.k_state.specs.Machines.{IsPlain, Machine};
+ghost use Rattle.std.specs.Prelude.{◌≡◌, ◌<◌, ◌++◌, ◌∷◌, [], Some, ◌^◌, IfOk, OnErr, OnOk, length};
+ghost use Rattle.std.specs.List.{AllByRecursion};
+ghost use Rattle.k_state.specs.Machines.{AreTotals, IsPlain, Machine};
 ghost use Rattle.k_state.specs.Stills.{blank};
-ghost use Rattle.k_types.specs.Trace.{process_count, trace_of};
+ghost use Rattle.k_types.specs.Sound.{IsOrdered};
+ghost use Rattle.k_types.specs.Trace.{process_count, segment_count, trace_of};
 ghost use Rattle.k_types.specs.Updates.{set_register};
 
 use crate::exits::Exits;
@@ -21,15 +23,15 @@ use std::marker::Model;
 /// Contracts see the state. What is added stands behind what was there.
 #[derive(Drop)]
 pub struct StillState {
-    objects: Vec<PlainObject>,
-    made: Vec<u32>,
-    registers: Vec<Registers>,
-    done: Vec<u32>,
-    exits: Vec<ExitItem>,
-    shares: Vec<Share>,
-    phases: Vec<Phase>,
-    ended: Vec<u32>,
-    maxima: Vec<u64>,
+    pub(crate) objects: Vec<PlainObject>,
+    pub(crate) made: Vec<u32>,
+    pub(crate) registers: Vec<Registers>,
+    pub(crate) done: Vec<u32>,
+    pub(crate) exits: Vec<ExitItem>,
+    pub(crate) shares: Vec<Share>,
+    pub(crate) phases: Vec<Phase>,
+    pub(crate) ended: Vec<u32>,
+    pub(crate) maxima: Vec<u64>,
 }
 
 impl Model for StillState {
@@ -161,15 +163,14 @@ impl PlainLists {
         requires { IsPlain (record { setup = trace_of setup.now [] []; state = state }) }
         ensures { IfOk result (λ s. s ≡ record { setup = trace_of setup.now [] []; state = state }) }
     {
-        let setup = copy_of(alloc, setup)?;
-        let count = 1 + setup.procs.len() + setup.shared as usize;
+        let (setup, segments, exits) = grouped(alloc, setup, state.objects, state.exits)?;
         Ok(PlainLists {
             setup,
-            segments: Segments::of(alloc, count, state.objects)?,
+            segments,
             made: state.made,
             registers: state.registers,
             done: state.done,
-            exits: Exits::of(alloc, state.exits)?,
+            exits,
             shares: state.shares,
             phases: state.phases,
             ended: state.ended,
@@ -178,4 +179,28 @@ impl PlainLists {
             maxima: state.maxima,
         })
     }
+}
+
+// A copy of the setup, with the objects in the lists of their segments and the exit items on their chains.
+fn grouped(
+    alloc: Global,
+    setup: &Setup,
+    objects: Vec<PlainObject>,
+    exits: Vec<ExitItem>,
+) -> Result<(Setup, Segments, Exits), NoMemory>
+    requires ordered { IsOrdered objects.items }
+    requires known { AllByRecursion (λ o. o.name.seg.0 < segment_count (trace_of setup.now [] [])) objects.items }
+    requires few { length objects.items < 2 ^ 32 }
+    requires few_exits { length exits.items < 2 ^ 32 }
+    ensures setup { IfOk result (λ r. trace_of r.0 [] [] ≡ trace_of setup.now [] []) }
+    ensures objects { IfOk result (λ r. r.1.objects ≡ objects.items) }
+    ensures count { IfOk result (λ r. length r.1.totals ≡ segment_count (trace_of setup.now [] [])) }
+    ensures totals { IfOk result (λ r. AreTotals objects.items r.1.totals) }
+    ensures exits { IfOk result (λ r. r.2 ≡ exits.items) }
+{
+    let setup = copy_of(alloc, setup)?;
+    let count = 1 + setup.procs.len() + setup.shared as usize;
+    let segments = Segments::of(alloc, count, objects)?;
+    let exits = Exits::of(alloc, exits)?;
+    Ok((setup, segments, exits))
 }

@@ -8,6 +8,7 @@
 //! lock unless a writer comes between.
 #![tactic(auto)]
 
+mod cell;
 mod counting;
 mod opening;
 mod pen;

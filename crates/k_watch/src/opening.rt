@@ -3,10 +3,10 @@ ghost use Rattle.std.specs.Prelude.{◌≡◌, ◌<◌, [], ◌∷◌, IfOk, len
 ghost use Rattle.k_watch.specs.Numbers.{numbers_of};
 ghost use Rattle.k_watch.specs.Values.{new_watcher};
 
+use crate::cell::{Cell, give_watcher, publish_first};
 use crate::counting::numbers;
-use crate::pen::{Cell, WatchPen};
+use crate::pen::WatchPen;
 use crate::sample::Sample;
-use crate::steps::{GiveWatcher, PublishFirst};
 use crate::watcher::Watcher;
 use k_book::Book;
 use k_types::NoMemory;
@@ -29,8 +29,8 @@ fn opened<R: Wait>(rt: &R, alloc: Global, sample: Sample) -> Result<(WatchPen, W
     ensures watcher { IfOk result (λ made. made.1 ≡ new_watcher made.0.cell sample.events) }
 {
     let (cell, mut pass) = Cell::ruled(alloc, [0; 3])?;
-    cell.swap_as::<PublishFirst, R>(rt, &mut pass, sample.to_words());
-    let watching = cell.split_pass::<GiveWatcher>(&mut pass);
+    publish_first(rt, &cell, &mut pass, sample.to_words());
+    let watching = give_watcher(&cell, &mut pass);
     let cell = Arc::new(alloc, cell)?;
     let theirs = Arc::try_clone(&cell)?;
     let pen = WatchPen { cell, pass };

@@ -3,21 +3,16 @@ ghost use Rattle.std.specs.Prelude.{◌≡◌, ◌<◌, ◌≤◌, ◌∷◌, �
 ghost use Rattle.k_watch.specs.Samples.{AllAmong, newest_of};
 ghost use Rattle.k_watch.specs.Numbers.{numbers_of};
 
+use crate::cell::{
+    Cell, CellPass, give_watcher, hand_over, look_at_watchers, publish_next, take_watcher,
+};
 use crate::counting::numbers;
 use crate::sample::Sample;
-use crate::steps::{GiveWatcher, HandOver, LookAtWatchers, PublishNext, SampleRule, TakeWatcher};
-use crate::view::View;
 use crate::watcher::Watcher;
-use crossbeam_utils::atomic::seq_cell::{Pass, RuledSeqCell};
 use k_book::Book;
 use std::alloc::Global;
 use std::marker::Model;
 use std::sync::{Arc, Wait};
-
-/// The cell that pen and watchers share: the words of the sample that was published last.
-pub(crate) type Cell = RuledSeqCell<[u64; 3], View, SampleRule, 3>;
-
-pub(crate) type CellPass = Pass<[u64; 3], View>;
 
 /// The pen of a cell. Contracts see which cell it is, and the samples that were published, in order.
 #[derive(Drop)]
@@ -55,8 +50,7 @@ impl WatchPen {
         requires { newest_of self.old.samples ≤ sample.events }
         ensures { self.new ≡ record self.old { samples = self.old.samples ++ sample ∷ [] } }
     {
-        self.cell
-            .swap_as::<PublishNext, R>(rt, &mut self.pass, sample.to_words());
+        publish_next(rt, &self.cell, &mut self.pass, sample.to_words());
     }
 
     /// Tells that each sample that the watcher has taken was published. The watcher is told how many events were published,
@@ -68,10 +62,10 @@ impl WatchPen {
         ensures published { AllAmong watcher.samples self.old.samples }
     {
         let Watcher { cell, mut pass } = watcher;
-        let whole = self.cell.split_pass::<HandOver>(&mut pass);
-        self.cell.join_pass::<TakeWatcher>(&mut self.pass, whole);
-        self.cell.load_as::<LookAtWatchers, R>(rt, &mut self.pass);
-        let pass = self.cell.split_pass::<GiveWatcher>(&mut self.pass);
+        let whole = hand_over(&self.cell, &mut pass);
+        take_watcher(&self.cell, &mut self.pass, whole);
+        look_at_watchers(rt, &self.cell, &mut self.pass);
+        let pass = give_watcher(&self.cell, &mut self.pass);
         Watcher { cell, pass }
     }
 }

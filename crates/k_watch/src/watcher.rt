@@ -2,9 +2,8 @@
 ghost use Rattle.std.specs.Prelude.{◌≡◌, ◌≤◌, ◌∷◌, ◌++◌, []};
 ghost use Rattle.k_watch.specs.Samples.{AllBelow};
 
-use crate::pen::{Cell, CellPass};
+use crate::cell::{Cell, CellPass, take_sample};
 use crate::sample::Sample;
-use crate::steps::TakeSample;
 use std::alloc::Global;
 use std::marker::Model;
 use std::sync::{Arc, Wait};
@@ -40,7 +39,7 @@ impl Watcher {
         ensures told { self.old.least ≤ result.events }
         ensures rises { AllBelow result.events self.old.samples }
     {
-        let words = self.cell.load_as::<TakeSample, R>(rt, &mut self.pass);
+        let words = take_sample(rt, &self.cell, &mut self.pass);
         Sample {
             events: words[0],
             root_use: words[1],

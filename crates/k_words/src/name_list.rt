@@ -12,9 +12,14 @@ use std::marker::Model;
 ///
 /// Contracts see the list of the names. A name and its number are found without a look at the
 /// other names.
-#[derive(Drop)]
 pub struct NameList {
     names: IndexSet<Vec<u8>>,
+}
+
+impl Drop for NameList {
+    fn drop(self) {
+        let NameList { names: _ } = self;
+    }
 }
 
 impl Model for NameList {

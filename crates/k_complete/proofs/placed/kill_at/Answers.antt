@@ -1,4 +1,5 @@
-use Rattle.std.proofs.Common.{◌<◌, arith}
+use Rattle.std.proofs.Common.{◌<◌, length, arith}
+use Rattle.std.proofs.lemmas.Option.{slice_get_within}
 use Rattle.k_complete.proofs.KilledAt.{high_can, high_killed, low_can, low_killed}
 use Rattle.k_complete.proofs.placed.kill_at.Goals as goal
 
@@ -32,3 +33,25 @@ returns-else-at-target g c = λ p t own other.
     high_killed g.world' c.args.processes.now cut.result.0.now cut.result.1.now c.args.at c.args.target p t c.args.kernel.now c.args.book.now c.args.op.now cut.ensures.value
     own other c.index-front-target.result c.index-back-0-else-at-target.result cut.ensures.front_len inside
     done.new.process done.new.target done.new.kernel done.new.book done.ensures.done done.ensures.events
+
+pub split_at_mut-front-requires : goal.split_at_mut-front-requires
+split_at_mut-front-requires g c =
+    let inside : c.args.target < length c.args.processes.now = slice_get_within c.args.processes.now c.args.target c.requires.1 c.requires.2.other in
+    omega (arith, inside)
+
+pub split_at_mut-front-requires-else-at-target : goal.split_at_mut-front-requires-else-at-target
+split_at_mut-front-requires-else-at-target g c =
+    let inside : c.args.at < length c.args.processes.now = slice_get_within c.args.processes.now c.args.at c.requires.0 c.requires.2.own in
+    omega (arith, inside)
+
+pub bounds-back-0 : goal.bounds-back-0
+bounds-back-0 g c =
+    let inside : c.args.target < length c.args.processes.now = slice_get_within c.args.processes.now c.args.target c.requires.1 c.requires.2.other in
+    let back = c.split_at_mut-front.ensures.back_len in
+    omega (arith, inside, back)
+
+pub bounds-back-0-else-at-target : goal.bounds-back-0-else-at-target
+bounds-back-0-else-at-target g c =
+    let inside : c.args.at < length c.args.processes.now = slice_get_within c.args.processes.now c.args.at c.requires.0 c.requires.2.own in
+    let back = c.split_at_mut-front-else-at-target.ensures.back_len in
+    omega (arith, inside, back)

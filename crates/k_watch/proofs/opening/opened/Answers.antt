@@ -1,12 +1,14 @@
-use Rattle.std.proofs.Common.{rules, ◌∙◌, [], ◌∷◌}
+use Rattle.std.proofs.Common.{◌∙◌, [], ◌∷◌}
 use Rattle.k_watch.specs.Samples.{sample_in}
 use Rattle.k_watch.specs.Steps.{newcomer}
 use Rattle.k_watch.proofs.RuleKept.{opens_with, gives}
 use Rattle.k_watch.proofs.opening.opened.Goals as goal
 
-pub swap_as-requires : goal.swap_as-requires
-swap_as-requires g c = (search rules, (search rules, (search rules, opens_with _ _ _ c.args.sample c.in_ok-cell.ensures.1 c.to_words.ensures.words c.to_words.ensures.small)))
+pub publish_first-requires-clause-rule : goal.publish_first-requires-clause-rule
+publish_first-requires-clause-rule g c = opens_with _ _ _ c.args.sample c.in_ok-cell.ensures.1 c.to_words.ensures.words c.to_words.ensures.small
 
-pub split_pass-watching-requires : goal.split_pass-watching-requires
-split_pass-watching-requires g c =
-    (search rules, (search rules, (c.swap_as.ensures.cell.0 ∙ c.in_ok-cell.ensures.0, gives _ _ (sample_in c.to_words.result ∷ []) newcomer [] c.swap_as.ensures.rule)))
+pub give_watcher-watching-requires : goal.give_watcher-watching-requires
+give_watcher-watching-requires g c = record {
+  cell = c.publish_first.ensures.cell.0 ∙ c.in_ok-cell.ensures.0;
+  rule = gives _ _ (sample_in c.to_words.result ∷ []) newcomer [] c.publish_first.ensures.rule;
+}

@@ -89,3 +89,50 @@ returns-clause-ok c =
     rw (← c.self.view_is)
     (state_of _ i.segments.totals c.self.invariant c.args.seg c.args.ty c.index-made.result.now (map content c.in_ok-fields.fields.items) known typed c.index-made.ensures c.in_ok-fields.ensures
     c.push.new.self.objects c.in_ok-push.ensures.objects)
+
+pub index-made-requires : goal.index-made-requires
+index-made-requires c =
+    let known = subst (λ (m : Machine). c.args.seg.0 < segment_count m.setup) (sym c.self.view_is) c.requires.seg in
+    omega (arith, known, c.self.invariant.plain.sized.made, c.self.inside.made.ok.0)
+
+pub index_mut-requires : goal.index_mut-requires
+index_mut-requires c =
+    let known = subst (λ (m : Machine). c.args.seg.0 < segment_count m.setup) (sym c.self.view_is) c.requires.seg in
+    omega (arith, known, c.self.invariant.plain.sized.made, c.self.inside.made.ok.0)
+
+pub overflow_add-next : goal.overflow_add-next
+overflow_add-next c =
+    let known = subst (λ (m : Machine). c.args.seg.0 < segment_count m.setup) (sym c.self.view_is) c.requires.seg in
+    let given = c.index-made.result.now in
+    let count : given ≡ get_or c.self.inside.made.items c.args.seg.0 0
+    = get_or_read c.self.inside.made.items c.args.seg.0 given (omega (arith, known, c.self.invariant.plain.sized.made)) c.index-made.ensures 0 in
+    let room = subst (λ (m : Machine). 1 + get_or m.state.made c.args.seg.0 0 < 2 ^ 32) (sym c.self.view_is) (c.requires.room.serials c.args.seg.0) in
+    omega (arith, count, room)
+
+pub push-requires-clause-seg : goal.push-requires-clause-seg
+push-requires-clause-seg c =
+    let known = subst (λ (m : Machine). c.args.seg.0 < segment_count m.setup) (sym c.self.view_is) c.requires.seg in
+    omega (arith, known, c.self.invariant.counted)
+
+pub fresh_fields-requires-clause-few : goal.fresh_fields-requires-clause-few
+fresh_fields-requires-clause-few c = c.self.invariant.plain.setup.fields
+
+pub fresh_fields-requires-clause-ty : goal.fresh_fields-requires-clause-ty
+fresh_fields-requires-clause-ty c = subst (λ (m : Machine). c.args.ty.0 < length m.setup.types) (sym c.self.view_is) c.requires.ty
+
+pub returns-clause-setup : goal.returns-clause-setup
+returns-clause-setup c = ap (λ (m : Machine). m.setup) c.self.view_is
+
+pub returns-clause-name : goal.returns-clause-name
+returns-clause-name c =
+    let known = subst (λ (m : Machine). c.args.seg.0 < segment_count m.setup) (sym c.self.view_is) c.requires.seg in
+    let given = c.index-made.result.now in
+    let count : given ≡ get_or c.self.inside.made.items c.args.seg.0 0
+    = get_or_read c.self.inside.made.items c.args.seg.0 given (omega (arith, known, c.self.invariant.plain.sized.made)) c.index-made.ensures 0 in
+    ap (λ n. record { seg = c.args.seg; serial = record { 0 = n + 1 } }) (count ∙ ap (λ (m : Machine). get_or m.state.made c.args.seg.0 0) c.self.view_is)
+
+pub returns-in_err-push-clause-setup : goal.returns-in_err-push-clause-setup
+returns-in_err-push-clause-setup c = ap (λ (m : Machine). m.setup) c.self.view_is
+
+pub invariant_of-self : goal.invariant_of-self
+invariant_of-self c = rw c.in_err-push.ensures.err c.self.invariant

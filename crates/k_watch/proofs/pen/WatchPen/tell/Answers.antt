@@ -3,28 +3,26 @@ use Rattle.k_watch.specs.Values.{PenValue, WatcherValue}
 use Rattle.k_watch.proofs.RuleKept.{hands_over, takes_in, looks, gives, joined}
 use Rattle.k_watch.proofs.pen.WatchPen.tell.Goals as goal
 
-pub split_pass-whole-requires : goal.split_pass-whole-requires
-split_pass-whole-requires g c =
+pub hand_over-whole-requires : goal.hand_over-whole-requires
+hand_over-whole-requires g c =
     let same = ap (λ (v : WatcherValue). v.cell) c.watcher.view_is ∙ c.requires.cell ∙ sym (ap (λ (v : PenValue). v.cell) c.self.view_is) in
-    (search rules, (search rules, (same ∙ c.self.invariant.0 ∙ sym (ap (λ w. w.table.shared.table_id) c.deref.ensures), hands_over _ _ _ c.watcher.invariant.1)))
+    record {
+      cell = same ∙ c.self.invariant.0 ∙ sym (ap (λ w. w.table.shared.table_id) c.deref.ensures);
+      rule = hands_over _ _ _ c.watcher.invariant.1;
+    }
 
-pub join_pass-requires : goal.join_pass-requires
-join_pass-requires g c =
+pub take_watcher-requires : goal.take_watcher-requires
+take_watcher-requires g c =
     let same = ap (λ (v : WatcherValue). v.cell) c.watcher.view_is ∙ c.requires.cell ∙ sym (ap (λ (v : PenValue). v.cell) c.self.view_is) in
-    (search rules, (search rules, ((search rules, c.split_pass-whole.ensures.given.0 ∙ same, c.split_pass-whole.ensures.given.2), takes_in _ _ _ _ _ _ c.self.invariant.1 (c.split_pass-whole.ensures.given.1 ∙ c.watcher.invariant.1))))
+    record {
+      own = (search rules, c.hand_over-whole.ensures.given.0 ∙ same, c.hand_over-whole.ensures.given.2);
+      rule = takes_in _ _ _ _ _ _ c.self.invariant.1 (c.hand_over-whole.ensures.given.1 ∙ c.watcher.invariant.1);
+    }
 
-pub load_as-requires : goal.load_as-requires
-load_as-requires g c =
-    (search rules, (search rules, (search rules, looks _ _ _ _ (joined _ _ _ _ _ c.self.invariant.1 (c.split_pass-whole.ensures.given.1 ∙ c.watcher.invariant.1) c.join_pass.ensures.1))))
+pub look_at_watchers-requires-clause-rule : goal.look_at_watchers-requires-clause-rule
+look_at_watchers-requires-clause-rule g c =
+    looks _ _ _ _ (joined _ _ _ _ _ c.self.invariant.1 (c.hand_over-whole.ensures.given.1 ∙ c.watcher.invariant.1) c.take_watcher.ensures.1)
 
-pub split_pass-pass-requires : goal.split_pass-pass-requires
-split_pass-pass-requires g c = (
-  search rules,
-  (
-    search rules,
-    (
-      search rules,
-      gives _ _ _ _ [] (c.load_as.ensures.rule.0 ∙ joined _ _ _ _ _ c.self.invariant.1 (c.split_pass-whole.ensures.given.1 ∙ c.watcher.invariant.1) c.join_pass.ensures.1),
-    ),
-  ),
-)
+pub give_watcher-pass-requires-clause-rule : goal.give_watcher-pass-requires-clause-rule
+give_watcher-pass-requires-clause-rule g c =
+    gives _ _ _ _ [] (c.look_at_watchers.ensures.kept ∙ joined _ _ _ _ _ c.self.invariant.1 (c.hand_over-whole.ensures.given.1 ∙ c.watcher.invariant.1) c.take_watcher.ensures.1)

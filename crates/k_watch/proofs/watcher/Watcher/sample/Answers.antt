@@ -1,6 +1,5 @@
-use Rattle.std.proofs.Common.{rules}
 use Rattle.k_watch.proofs.RuleKept.{takes}
 use Rattle.k_watch.proofs.watcher.Watcher.sample.Goals as goal
 
-pub load_as-words-requires : goal.load_as-words-requires
-load_as-words-requires g c = (search rules, (search rules, (search rules, takes _ _ _ c.self.invariant.1)))
+pub take_sample-words-requires-clause-rule : goal.take_sample-words-requires-clause-rule
+take_sample-words-requires-clause-rule g c = takes _ _ _ c.self.invariant.1
