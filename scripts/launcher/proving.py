@@ -26,6 +26,8 @@ AMPLE_MEMORY_EACH_KB = 5_000_000
 LINES_SHOWN = 60
 # Each a call of rt that runs beside the others, for these crates and what they stand on: those on which all others stand, and the two long ways up.
 FIRST, RUN, ANSWERS = ("k_io", "k_types"), ("k_run",), ("k_answers",)
+# The answers come behind the run, as `nice` counts it, and have half of the processors: less is to be proved for them, and the program needs both.
+BEHIND = 2
 TOLD = re.compile(r"rt: (\w+) (?:(proved)|(is kept)\b.*|NOT PROVED\b.*)\n")
 
 
@@ -54,9 +56,9 @@ def environment():
     return others if is_ample and not wanted() else one_each()
 
 
-def one_each():
-    """The environment in which rt gives each proof one processor."""
-    return {**os.environ, "RT_JOBS": str(at_once())}
+def one_each(jobs=None):
+    """The environment in which rt gives each proof one processor, with so many at once."""
+    return {**os.environ, "RT_JOBS": str(jobs or at_once())}
 
 
 def copied(top, to):
@@ -102,11 +104,12 @@ class Build:
         # Whether calls take what others have proved, what RUN stands on, and that this is proved, or that calls have ended before.
         self.is_shared, self.below_run, self.is_near = True, None, threading.Event()
 
-    def begin(self, names, env):
-        """Begins a call of rt for these crates and what they stand on, or for all, and gives the call."""
+    def begin(self, names, env, behind=0):
+        """Begins a call of rt for these crates and what they stand on, or for all, and gives the call. It comes behind others by so much."""
         # (rt copies the crates for a call with names)
         how = {"cwd": self.at, "env": {**env, "TMPDIR": os.path.dirname(self.at)}, "stdin": subprocess.DEVNULL, "stderr": subprocess.STDOUT}
-        call = subprocess.Popen(["rt", "ci", *names], stdout=subprocess.PIPE, text=True, errors="replace", **how)
+        words = ["nice", "-n", str(behind), "rt", "ci", *names]
+        call = subprocess.Popen(words, stdout=subprocess.PIPE, text=True, errors="replace", **how)
         self.calls.append(call)
         return call
 
@@ -162,7 +165,7 @@ class Build:
     def beside(self, lists, env):
         """Begins the calls that run beside each other, and gives their threads once all is proved that RUN stands on, or they have ended before."""
         self.below_run = {*sources.with_below(lists, *RUN)} - {*RUN}
-        calls = [self.begin(names, each) for names, each in ((FIRST, env), (RUN, env), (ANSWERS, one_each()))]
+        calls = [self.begin(FIRST, env), self.begin(RUN, env), self.begin(ANSWERS, one_each(max(1, at_once() // 2)), BEHIND)]
         threads = [threading.Thread(target=self.follow, args=(call,)) for call in calls]
         for it in threads:
             it.start()
