@@ -1,10 +1,7 @@
 pub mod Unread
 pub mod Rooms
-pub mod Absorptions
-pub mod Joined
 pub mod NextObjects
 pub mod Known
 pub mod Sorted
-pub mod Follows
 pub mod Arranged
 pub mod Lines

@@ -3,8 +3,8 @@ ghost use Rattle.std.specs.Prelude.{◌≤◌};
 ghost use Rattle.k_big.specs.Workload.{most_objects};
 
 use k_big::{big_trace, summary};
+use k_filed::solo;
 use k_io::MemSink;
-use k_solo::solo;
 use std::alloc::Global;
 use std::process::Abort;
 use std::test::Fail;

@@ -16,7 +16,7 @@ use Rattle.k_types.specs.Trace.{Trace}
 use Rattle.k_types.specs.Updates.{set_phase, keep_exits}
 use Rattle.k_state.specs.Machines.{Machine}
 use Rattle.k_state.specs.Rooms.{HasRoom}
-use Rattle.k_solo.specs.Taken.{HasTaken, first_events}
+use Rattle.k_filed.specs.Taken.{HasTaken, first_events}
 use Rattle.k_solo.proofs.Rooms.{less_room, step_room}
 use Rattle.k_state.proofs.Sums.{numbers_left}
 use Rattle.k_base.proofs.Lists.{numbers_length}

@@ -8,9 +8,9 @@ ghost use Rattle.k_types.specs.Trace.{Trace as Meant, process_count};
 ghost use Rattle.k_types.specs.TraceRules.{KeepsRules};
 ghost use Rattle.k_types.specs.declared.op.Op.{Op};
 
-use crate::ending::PlainEnd;
 use crate::taking::{do_last, do_operation};
 use k_plain::PlainState;
+use k_solo::PlainEnd;
 use k_trace::Trace;
 use k_types::{NoMemory, Op, Pid};
 use std::alloc::Global;

@@ -11,12 +11,12 @@ use Rattle.k_trace.specs.Meaning.{meaning_of}
 use Rattle.k_state.specs.Machines.{Machine}
 use Rattle.k_state.specs.Rooms.{HasRoom}
 use Rattle.k_solo.specs.Runs.{IsFiled}
-use Rattle.k_solo.specs.Taken.{HasTaken}
-use Rattle.k_solo.proofs.Follows.{Follows, filed_run, follows_none, follows_some, last_known, last_legal, line_legal}
-use Rattle.k_solo.proofs.Lines.{few_events, few_last, few_more, order_length}
+use Rattle.k_filed.specs.Taken.{HasTaken}
+use Rattle.k_filed.proofs.Follows.{Follows, filed_run, follows_none, follows_some, last_known, last_legal, line_legal}
+use Rattle.k_filed.proofs.Lines.{few_events, few_last, few_more, order_length}
 use Rattle.k_solo.proofs.Rooms.{history_room}
-use Rattle.k_solo.proofs.running.solo.Goals as goal
-use Rattle.k_solo.proofs.running.solo.Goals.{in-Some+in_ok-do_operation, in_default}
+use Rattle.k_filed.proofs.running.solo.Goals as goal
+use Rattle.k_filed.proofs.running.solo.Goals.{in-Some+in_ok-do_operation, in_default}
 use Rattle.k_base.proofs.Numbered.{process_known, order_next, order_over}
 
 -- the process of that number in the order is one of the trace's

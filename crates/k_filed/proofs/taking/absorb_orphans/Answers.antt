@@ -2,9 +2,9 @@ use Rattle.std.proofs.Common.{◌≡◌, ◌<◌, true, ◌+◌, ap, subst, sym,
 use Rattle.k_types.specs.declared.event.Event.{Event}
 use Rattle.k_types.specs.Steps.{is_orphan}
 use Rattle.k_state.specs.Machines.{Machine}
-use Rattle.k_solo.proofs.Absorptions.{Absorbing, absorbing_may, absorbing_passes, absorbing_takes}
-use Rattle.k_solo.proofs.taking.absorb_orphans.Goals as goal
-use Rattle.k_solo.proofs.taking.absorb_orphans.Goals.{then-is_orphan+in_ok-take, else-is_orphan}
+use Rattle.k_filed.proofs.Absorptions.{Absorbing, absorbing_may, absorbing_passes, absorbing_takes}
+use Rattle.k_filed.proofs.taking.absorb_orphans.Goals as goal
+use Rattle.k_filed.proofs.taking.absorb_orphans.Goals.{then-is_orphan+in_ok-take, else-is_orphan}
 
 pub take-requires-clause-possible : goal.take-requires-clause-possible
 take-requires-clause-possible c =

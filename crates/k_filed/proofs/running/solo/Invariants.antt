@@ -1,8 +1,8 @@
 use Rattle.std.proofs.Common.{◌*◌, ◌≤◌, map, drop, length}
 use Rattle.k_types.specs.declared.names.Pid.{Pid}
 use Rattle.k_trace.specs.Meaning.{meaning_of}
-use Rattle.k_solo.proofs.Follows.{Follows}
-use Rattle.k_solo.proofs.running.solo.Given as goal
+use Rattle.k_filed.proofs.Follows.{Follows}
+use Rattle.k_filed.proofs.running.solo.Given as goal
 
 abbrev pub invariant-loop-pid : goal.invariant-loop-pid
 invariant-loop-pid l = record {

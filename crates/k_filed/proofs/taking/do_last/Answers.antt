@@ -8,10 +8,10 @@ use Rattle.k_types.specs.FileOrder.{absorptions, last_events, with_end}
 use Rattle.k_types.specs.Steps.{IsRun, run}
 use Rattle.k_state.specs.Machines.{Machine}
 use Rattle.k_frame.proofs.Histories.{legal_front}
-use Rattle.k_solo.specs.Taken.{HasTaken}
-use Rattle.k_solo.proofs.Joined.{tail_legal, tail_taken, taken_room}
-use Rattle.k_solo.proofs.Absorptions.{few_absorptions}
-use Rattle.k_solo.proofs.taking.do_last.Goals as goal
+use Rattle.k_filed.specs.Taken.{HasTaken}
+use Rattle.k_filed.proofs.Joined.{tail_legal, tail_taken, taken_room}
+use Rattle.k_filed.proofs.Absorptions.{few_absorptions}
+use Rattle.k_filed.proofs.taking.do_last.Goals as goal
 
 -- the last events, where every process has ended
 when_ended : (m : Machine) → all_ended m.setup m.state ≡ true →

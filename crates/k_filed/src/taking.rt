@@ -1,6 +1,6 @@
 //! Steps that the machine has, taken and noted in the journal.
 ghost use Rattle.std.specs.Prelude.{◌≡◌, ◌≤◌, [], ◌∷◌, OnOk, Some};
-ghost use Rattle.k_solo.specs.Taken.{HasTaken, first_events};
+ghost use Rattle.k_filed.specs.Taken.{HasTaken, first_events};
 ghost use Rattle.k_state.specs.Rooms.{HasRoom};
 ghost use Rattle.k_types.specs.FileOrder.{absorptions, end_of, events_of, heap_begun, last_events, with_end};
 ghost use Rattle.k_types.specs.Replies.{reply_to};

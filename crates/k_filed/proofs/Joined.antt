@@ -9,7 +9,7 @@ use Rattle.k_types.specs.Trace.{Trace}
 use Rattle.k_frame.proofs.Histories.{legal_rest, run_append}
 use Rattle.k_state.specs.Machines.{Machine}
 use Rattle.k_state.specs.Rooms.{HasRoom}
-use Rattle.k_solo.specs.Taken.{HasTaken}
+use Rattle.k_filed.specs.Taken.{HasTaken}
 use Rattle.k_solo.proofs.Rooms.{less_room, run_room}
 
 -- both in turn

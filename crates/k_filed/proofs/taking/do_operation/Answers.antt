@@ -4,10 +4,10 @@ use Rattle.k_types.specs.FileOrder.{heap_begun, with_end}
 use Rattle.k_types.specs.Replies.{reply_to}
 use Rattle.k_types.specs.Steps.{run}
 use Rattle.k_frame.proofs.Histories.{legal_front}
-use Rattle.k_solo.specs.Taken.{first_events}
-use Rattle.k_solo.proofs.Joined.{tail_legal, tail_taken, taken_room}
-use Rattle.k_solo.proofs.Absorptions.{few_first}
-use Rattle.k_solo.proofs.taking.do_operation.Goals as goal
+use Rattle.k_filed.specs.Taken.{first_events}
+use Rattle.k_filed.proofs.Joined.{tail_legal, tail_taken, taken_room}
+use Rattle.k_filed.proofs.Absorptions.{few_first}
+use Rattle.k_filed.proofs.taking.do_operation.Goals as goal
 
 pub absorb_before-requires-clause-legal : goal.absorb_before-requires-clause-legal
 absorb_before-requires-clause-legal c =

@@ -2,8 +2,8 @@ use Rattle.std.proofs.Common.{[], ◌∷◌, arith}
 use Rattle.k_types.specs.declared.event.Event.TheVariants.{Closing}
 use Rattle.k_types.specs.declared.names.Heap.TheVariants.{Kernel}
 use Rattle.k_types.specs.FileOrder.{end_of}
-use Rattle.k_solo.proofs.Joined.{tail_taken, taken_room}
-use Rattle.k_solo.proofs.taking.take_closing.Goals as goal
+use Rattle.k_filed.proofs.Joined.{tail_taken, taken_room}
+use Rattle.k_filed.proofs.taking.take_closing.Goals as goal
 
 pub end-requires-clause-room : goal.end-requires-clause-room
 end-requires-clause-room c =

@@ -1,6 +1,6 @@
 use Rattle.std.proofs.Common.{◌≡◌}
-use Rattle.k_solo.proofs.Absorptions.{Absorbing}
-use Rattle.k_solo.proofs.taking.absorb_orphans.Given as goal
+use Rattle.k_filed.proofs.Absorptions.{Absorbing}
+use Rattle.k_filed.proofs.taking.absorb_orphans.Given as goal
 
 abbrev pub invariant-loop-s : goal.invariant-loop-s
 invariant-loop-s l = record {

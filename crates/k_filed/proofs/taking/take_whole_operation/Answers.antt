@@ -4,9 +4,9 @@ use Rattle.k_types.specs.declared.event.Event.{Event}
 use Rattle.k_types.specs.declared.event.Event.TheVariants.{Done}
 use Rattle.k_types.specs.FileOrder.{end_of, heap_begun, with_end}
 use Rattle.k_types.specs.Replies.{reply_to}
-use Rattle.k_solo.specs.Taken.{HasTaken}
-use Rattle.k_solo.proofs.Joined.{tail_taken, taken_room}
-use Rattle.k_solo.proofs.taking.take_whole_operation.Goals as goal
+use Rattle.k_filed.specs.Taken.{HasTaken}
+use Rattle.k_filed.proofs.Joined.{tail_taken, taken_room}
+use Rattle.k_filed.proofs.taking.take_whole_operation.Goals as goal
 
 pub end-requires-clause-room : goal.end-requires-clause-room
 end-requires-clause-room c =

@@ -15,7 +15,7 @@ use Rattle.k_known.proofs.KnownEvents.{history_known}
 use Rattle.k_plain.proofs.FileOrders.{file_order_complete, file_order_legal, order_end}
 use Rattle.k_state.specs.Machines.{Machine, setup_of}
 use Rattle.k_solo.specs.Runs.{IsFiled}
-use Rattle.k_solo.specs.Taken.{HasTaken}
+use Rattle.k_filed.specs.Taken.{HasTaken}
 use Rattle.k_solo.proofs.Lines.{setup_rules}
 use Rattle.k_solo.proofs.Unread.{events_unread, last_unread, legal_unread, run_unread}
 

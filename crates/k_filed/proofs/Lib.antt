@@ -1,0 +1,4 @@
+pub mod Absorptions
+pub mod Joined
+pub mod Follows
+pub mod Lines
