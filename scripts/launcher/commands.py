@@ -28,6 +28,9 @@ COMMANDS = {
     "tree": Command("[SCRIPT]", [], 1, "a script whose processes make and end children, in the order of the file: writes its report"),
 }
 
+# The commands that the smaller program has, which is built for them where the whole one is not there.
+RUN_COMMANDS = ("run", "replay")
+
 # What is run: the words for the program, and the files to join; none means that standard input is left as it is.
 Call = namedtuple("Call", "words files")
 

@@ -1,4 +1,4 @@
-"""./kaffe install DIR: the proved program and its manual page, put where they can be used without the checkout."""
+"""./kaffe install DIR: the whole proved program and its manual page, put where they can be used without the checkout."""
 import os
 import shutil
 import sys
@@ -16,7 +16,7 @@ USAGE_STATUS = 2
 def main(top, words):
     """Installs the program, which is built where it is not fresh. Gives the exit status."""
     if words in (["--help"], ["-h"]):
-        print(f"{WORDS}\n\nPuts the proved program at DIR/{PROGRAM_AT} and its manual page at DIR/{PAGE_AT}. Where there is no proved\nprogram it is built first; where that fails nothing is put anywhere.")
+        print(f"{WORDS}\n\nPuts the whole proved program at DIR/{PROGRAM_AT} and its manual page at DIR/{PAGE_AT}. Where it is not there, or not\nthat of the sources, it is built first; where that fails nothing is put anywhere.")
         return 0
     if len(words) != 1 or words[0].startswith("-") or not words[0]:
         print(WORDS, file=sys.stderr)

@@ -16,7 +16,9 @@ def main(top, words, text):
         is_unproved, words = True, words[1:]
     first = words[0] if words else ""
     if first in ("--help", "-h", "help"):
-        print(text.format(commands=commands.listed()), end="")
+        from launcher import building
+
+        print(text.format(commands=commands.listed(), first_build=building.FIRST_BUILD[sources.PROGRAM]), end="")
         return 0
     if first == "--version" and len(words) == 1:
         return tell_version(top)
@@ -32,7 +34,7 @@ def main(top, words, text):
     if call is None:
         return commands.answer_usage(hint_of(words))
     source = commands.joined(call.files) if call.files else 0
-    program = path_of(top, is_unproved)
+    program = path_of(top, call.words[0], is_unproved)
     return run(program, call, source, is_unproved)
 
 
@@ -45,14 +47,23 @@ def hint_of(words):
     return f"there is no command {words[0]!r}: --help lists them"
 
 
-def path_of(top, is_unproved):
-    """The program to run, built if need be."""
-    program = (sources.unproved if is_unproved else sources.proved)(top)
-    if program.is_fresh():
-        return program.path
+def programs_for(top, name, is_unproved):
+    """The programs that can do the command of this name: the first that is fresh does it, and where none is, the last is built."""
+    if is_unproved:
+        return [sources.unproved(top)]
+    whole = sources.proved(top)
+    return [whole, sources.proved(top, sources.RUN_PROGRAM)] if name in commands.RUN_COMMANDS else [whole]
+
+
+def path_of(top, name, is_unproved):
+    """The program to run for the command of this name, built if need be."""
+    programs = programs_for(top, name, is_unproved)
+    fresh = next((it for it in programs if it.is_fresh()), None)
+    if fresh:
+        return fresh.path
     from launcher import building
 
-    return building.built(program, building.build_unproved if is_unproved else building.build_proved)
+    return building.built(programs[-1], building.build_unproved if is_unproved else building.build_proved)
 
 
 def run(program, call, source, is_unproved):
@@ -85,14 +96,16 @@ def tell_version(top):
     """Prints the versions of the project and of the kit, and what is known of the programs that are there."""
     print(f"kaffe {VERSION}{commit_of(top)}")
     print(f"kit: {sources.kit() or 'none, since its command rt is not on the PATH'}")
-    proved, unproved = sources.proved(top), sources.unproved(top)
-    print(f"program: {state_of(proved, 'proved')}")
-    print(f"unproved build: {state_of(unproved, 'not proved')}")
+    print(f"program: {state_of(sources.proved(top), 'proved')}")
+    of_runs = sources.proved(top, sources.RUN_PROGRAM)
+    if of_runs.is_there():
+        print(f"program for {' and '.join(commands.RUN_COMMANDS)} alone: {state_of(of_runs, 'proved')}")
+    print(f"unproved build: {state_of(sources.unproved(top), 'not proved')}")
     return 0
 
 
 def state_of(program, proof):
-    if not os.access(program.path, os.X_OK):
+    if not program.is_there():
         return "not built"
     is_fresh = "that of the sources as they are" if program.is_fresh() else "older than the sources, or made by another kit"
     return f"{os.path.relpath(program.path, program.top)}, {proof}, {is_fresh}"

@@ -1,9 +1,9 @@
-"""How the kit's gate proves the program and the crates below it, several at once, in a copy of the checkout with nothing else.
+"""How the kit's gate proves a program and the crates below it, several at once, in a copy of the checkout with nothing else.
 
 `rt ci` gives each proof as many processors as no other proof waits for when it begins, and never more. So a long proof for which much
 waits keeps the one that it began with, and others are idle behind it. Where there is memory for it, several calls of rt therefore run at once:
-one proves the run and what it stands on, another the answers and what they stand on, and each takes from the kit's store what another
-has proved. The system shares the processors between them.
+some for crates of the longest chain and what they stand on, one for the answers, where the program has them, or for what it needs beside the
+run. Each takes from the kit's store what another has proved. The system shares the processors between them.
 """
 import collections
 import contextlib
@@ -24,10 +24,15 @@ MEMORY_EACH_KB = 2_600_000
 # With so much free memory for each processor rt has as many proofs run at once by its own estimates, which are high.
 AMPLE_MEMORY_EACH_KB = 5_000_000
 LINES_SHOWN = 60
-# Each a call of rt that runs beside the others, for these crates and what they stand on: those on which all others stand, and the two long ways up.
-FIRST, RUN, ANSWERS = ("k_io", "k_types"), ("k_run",), ("k_answers",)
+# Crates of the longest chain, each with a call of rt for it and what it stands on: the last crate of a call gets two processors, and one where rt
+# sees others that could begin with it. The call of the last one is for the run.
+CHAIN, ANSWERS = ("k_space", "k_cell", "k_pair", "k_worker", "k_run"), ("k_answers",)
+# What a program without the answers needs beside the run. Its call begins once all is proved on which both stand, so that the run waits for
+# nothing that it has begun.
+REST = ("k_status", "k_report", "k_gather")
 # The answers come behind the run, as `nice` counts it, and have half of the processors: less is to be proved for them, and the program needs both.
-BEHIND = 2
+# The rest has what the run leaves.
+BEHIND, FAR_BEHIND = 2, 5
 TOLD = re.compile(r"rt: (\w+) (?:(proved)|(is kept)\b.*|NOT PROVED\b.*)\n")
 
 
@@ -61,9 +66,9 @@ def one_each(jobs=None):
     return {**os.environ, "RT_JOBS": str(jobs or at_once())}
 
 
-def copied(top, to):
+def copied(top, program, to):
     """A copy of the program's crates, which rt takes for a repository of its own."""
-    need, lists = sources.crates_below(top)
+    need, lists = sources.crates_below(top, program)
     os.makedirs(f"{to}/.git")
     for name in need:
         os.makedirs(f"{to}/crates/{name}")
@@ -98,11 +103,13 @@ class Build:
     def __init__(self, at, of_build):
         self.at, self.progress = at, of_build
         self.began, self.used = time.monotonic(), 0.0
-        self.calls, self.last, self.turn = [], collections.deque(maxlen=LINES_SHOWN), threading.Lock()
+        # All calls, and those of them that run beside the one for the program, with the threads that follow these.
+        self.calls, self.others, self.threads = [], [], []
+        self.last, self.turn = collections.deque(maxlen=LINES_SHOWN), threading.Lock()
         # The crates that were told of, each with whether it was proved now; the one that is not proved, if one is not.
         self.told, self.failed = {}, None
-        # Whether calls take what others have proved, what RUN stands on, and that this is proved, or that calls have ended before.
-        self.is_shared, self.below_run, self.is_near = True, None, threading.Event()
+        # Whether calls take what others have proved, and sets of crates, each with what tells that all of them are proved.
+        self.is_shared, self.awaited = True, []
 
     def begin(self, names, env, behind=0):
         """Begins a call of rt for these crates and what they stand on, or for all, and gives the call. It comes behind others by so much."""
@@ -113,14 +120,31 @@ class Build:
         self.calls.append(call)
         return call
 
+    def add(self, names, env, behind=0):
+        """Begins a call beside the one for the program."""
+        call = self.begin(names, env, behind)
+        self.others.append(call)
+        self.threads.append(threading.Thread(target=self.follow, args=(call,)))
+        self.threads[-1].start()
+
     def follow(self, call):
         """Reads what a call says, until it ends."""
         with call.stdout:
             for line in call.stdout:
                 with self.turn:
                     self.take(line)
-        if call.wait():
-            self.is_near.set()
+        if call.wait() or all(it.poll() is not None for it in self.others):
+            self.wake()
+
+    def await_all(self, names):
+        """What is set once all these crates are proved, or calls have ended before."""
+        self.awaited.append((names, threading.Event()))
+        return self.awaited[-1][1]
+
+    def wake(self):
+        """Has nobody wait any more."""
+        for _, event in self.awaited:
+            event.set()
 
     def take(self, line):
         """Takes one line that a call has said."""
@@ -139,68 +163,73 @@ class Build:
             print(f"kaffe: {said}", file=sys.stderr, flush=True)
         elif is_kept:
             self.progress.keep(crate)
-            if crate in FIRST:
+            if crate == CHAIN[0]:
                 # (an earlier build proved most, and one call gives that quickest)
                 self.go_alone()
         else:
             # (the crates that do not stand on it are of no use by themselves)
             self.failed = crate
-            self.end()
+            self.end(self.calls)
         self.told.setdefault(crate, is_proved)
-        if self.below_run and self.below_run <= {*self.told}:
-            self.is_near.set()
+        for names, event in self.awaited:
+            if names <= {*self.told}:
+                event.set()
 
     def go_alone(self):
-        """Ends the calls beside each other, so that one call does all."""
+        """Ends the calls beside the one for the program, so that this one does all."""
         if self.is_shared:
             self.is_shared = False
-            self.end()
+            self.end(self.others)
 
-    def end(self):
-        """Ends the calls that still run."""
-        for call in self.calls:
+    def end(self, calls):
+        """Ends those of these calls that still run."""
+        for call in calls:
             call.terminate()
-        self.is_near.set()
+        self.wake()
 
-    def beside(self, lists, env):
-        """Begins the calls that run beside each other, and gives their threads once all is proved that RUN stands on, or they have ended before."""
-        self.below_run = {*sources.with_below(lists, *RUN)} - {*RUN}
-        calls = [self.begin(FIRST, env), self.begin(RUN, env), self.begin(ANSWERS, one_each(max(1, at_once() // 2)), BEHIND)]
-        threads = [threading.Thread(target=self.follow, args=(call,)) for call in calls]
-        for it in threads:
-            it.start()
-        self.is_near.wait()
-        return threads
+    def beside(self, need, lists, env):
+        """Has calls run beside each other, until all is proved on which the end of CHAIN stands, or they have ended before."""
+        rest, half = [it for it in REST if it in need], one_each(max(1, at_once() // 2))
+        below_run = {*sources.with_below(lists, CHAIN[-1])} - {CHAIN[-1]}
+        is_near, is_apart = self.await_all(below_run), self.await_all(below_run & {*sources.with_below(lists, *rest)})
+        for crate in CHAIN:
+            self.add([crate], env)
+        if {*ANSWERS} <= {*need}:
+            self.add(ANSWERS, half, BEHIND)
+        elif rest:
+            is_apart.wait()
+            if self.is_shared and not self.failed:
+                self.add(rest, half, FAR_BEHIND)
+        is_near.wait()
 
     def whole(self, need, lists, env):
         """Proves and builds the program, and gives whether that went well."""
-        is_ample, threads = "RT_JOBS" not in env, []
         try:
-            if is_ample and {*FIRST, *RUN, *ANSWERS} <= {*need}:
-                threads = self.beside(lists, env)
+            if "RT_JOBS" not in env and {*CHAIN} <= {*need}:
+                self.beside(need, lists, env)
             if self.failed:
                 return False
             call = self.begin([], env)
             self.follow(call)
             return not call.returncode
         finally:
-            self.end()
-            for it in threads:
+            self.end(self.calls)
+            for it in self.threads:
                 it.join()
 
 
-def prove(top, at):
-    """Has rt prove and build the program in a copy of its crates, which it makes at this place. Gives the path of the program, or None
-    where a crate is not proved or the program does not run; what rt said of it is printed."""
-    need, lists = copied(top, at)
+def prove(top, program, at):
+    """Has rt prove and build the program of this crate in a copy of its crates, which it makes at this place. Gives the path of what was
+    built, or None where a crate is not proved or the program does not run; what rt said of it is printed."""
+    need, lists = copied(top, program, at)
     many, env = at_once(), environment()
     gain = 1.0 if "RT_JOBS" in env else progress.GAIN_OF_JOBS
     build = Build(at, progress.Progress(need, lists, progress.times_of(f"{top}/docs/gate-times"), many, gain))
     whole = progress.shown(build.progress.whole)
     print(f"kaffe: {len(need)} crates, {many} at once; about {whole} by docs/gate-times where none is kept", file=sys.stderr, flush=True)
-    program = f"{at}/crates/{sources.PROGRAM}/out/{sources.PROGRAM}"
-    if build.whole(need, lists, env) and os.access(program, os.X_OK):
-        return program
+    made = f"{at}/crates/{program}/out/{program}"
+    if build.whole(need, lists, env) and os.access(made, os.X_OK):
+        return made
     print("".join(build.last), end="", file=sys.stderr)
     if build.failed:
         print(f"kaffe: {build.failed} is not proved; rt's last lines are above", file=sys.stderr)

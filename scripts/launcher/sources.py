@@ -4,7 +4,8 @@ import os
 import shutil
 import subprocess
 
-PROGRAM = "kaffe"
+# The crates of the programs: the whole one, and a smaller one that has the commands `run` and `replay` alone, for which less is to be proved.
+PROGRAM, RUN_PROGRAM = "kaffe", "kaffe_run"
 # The parts of a crate that its proof reads, and those that alone decide what its code does.
 PROVED_PARTS, CODE_PARTS = ("src", "specs", "proofs"), ("src",)
 
@@ -20,8 +21,8 @@ def crates_below(top, name=PROGRAM):
     return with_below(lists, name), lists
 
 
-def with_below(lists, name):
-    """By these lists the crates on which this one stands, and itself, each after those that it stands on."""
+def with_below(lists, *names):
+    """By these lists the crates on which these stand, and themselves, each after those that it stands on."""
     found = []
 
     def add(crate):
@@ -30,12 +31,14 @@ def with_below(lists, name):
                 add(it)
         found.append(crate)
 
-    add(name)
+    for name in names:
+        if name not in found:
+            add(name)
     return found
 
 
-def files_of(top, parts):
-    """The path and the state of each file of these parts of the program's crates, and of the list of crates."""
+def files_of(top, name, parts):
+    """The path and the state of each file of these parts of the crates on which this one stands and of itself, and of the list of crates."""
     found = []
 
     def walk(folder):
@@ -46,7 +49,7 @@ def files_of(top, parts):
                 else:
                     found.append((entry.path, entry.stat()))
 
-    for crate in crates_below(top)[0]:
+    for crate in crates_below(top, name)[0]:
         for part in parts:
             if os.path.isdir(f"{top}/crates/{crate}/{part}"):
                 walk(f"{top}/crates/{crate}/{part}")
@@ -103,10 +106,19 @@ def command_state():
 class Built:
     """A program, and beside it a note from which sources and by which kit the launcher had it built."""
 
-    def __init__(self, top, name, parts):
-        self.top, self.parts = top, parts
-        self.path = f"{top}/crates/{PROGRAM}/out/{name}"
+    def __init__(self, top, crate, name, parts):
+        self.top, self.crate, self.parts = top, crate, parts
+        self.folder = f"{top}/crates/{crate}/out"
+        self.path = f"{self.folder}/{name}"
         self.note_path = f"{self.path}.built"
+
+    def is_there(self):
+        """Whether there is such a program, fresh or not."""
+        return os.access(self.path, os.X_OK)
+
+    def files(self):
+        """The path and the state of each file from which it is built."""
+        return files_of(self.top, self.crate, self.parts)
 
     def note(self):
         try:
@@ -124,9 +136,9 @@ class Built:
 
     def is_fresh(self):
         """Whether the program is there, and is that of these sources and of this kit, as far as there is one."""
-        if not os.access(self.path, os.X_OK):
+        if not self.is_there():
             return False
-        note, files = self.note(), files_of(self.top, self.parts)
+        note, files = self.note(), self.files()
         if note.get("program") != state_of(self.path):
             return self.is_newest(files)
         now = command_state()
@@ -149,18 +161,18 @@ class Built:
             return False
         found = shutil.which("rt")
         folders = {folder for path, _ in files for folder in folders_above(self.top, path)}
-        tops = [f"{self.top}/crates/{crate}/{part}" for crate in crates_below(self.top)[0] for part in self.parts]
+        tops = [f"{self.top}/crates/{crate}/{part}" for crate in crates_below(self.top, self.crate)[0] for part in self.parts]
         folders.update(it for it in tops if os.path.isdir(it))
         times = [it.st_mtime_ns for _, it in files] + [os.stat(it).st_mtime_ns for it in folders]
         times += [os.stat(found).st_mtime_ns] if found else []
         return max(times) < os.stat(self.path).st_mtime_ns
 
 
-def proved(top):
-    """The proved program. rt makes it, and makes it only of crates that are proved."""
-    return Built(top, PROGRAM, PROVED_PARTS)
+def proved(top, crate=PROGRAM):
+    """The proved program of this crate. rt makes it, and makes it only of crates that are proved."""
+    return Built(top, crate, crate, PROVED_PARTS)
 
 
 def unproved(top):
-    """The program as rt compiles it before any proof."""
-    return Built(top, f"{PROGRAM}-unproved", CODE_PARTS)
+    """The whole program as rt compiles it before any proof."""
+    return Built(top, PROGRAM, f"{PROGRAM}-unproved", CODE_PARTS)

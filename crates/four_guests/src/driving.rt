@@ -4,9 +4,8 @@ ghost use Rattle.k_parts.specs.Parts.{IsNamed};
 ghost use Rattle.k_parts.specs.Splitting.{IsAtRest, home_of};
 
 use crate::work::{LAST, OPENING, ROUND};
-use k_host::Host;
 use k_parts::{
-    BookPart, Came, GuestPart, HostName, KernelPart, PartError, Reach, SplitHost, split,
+    BookPart, Came, GuestPart, Host, HostName, KernelPart, PartError, Reach, SplitHost, split,
 };
 use k_types::{NoMemory, Op};
 use std::alloc::Global;

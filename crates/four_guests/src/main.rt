@@ -9,7 +9,7 @@ mod driving;
 mod work;
 
 use crate::driving::driven;
-use k_host::{Host, Rooms};
+use k_parts::{Host, Rooms};
 use k_types::{NoMemory, TypeId};
 use std::alloc::Global;
 use std::env;

@@ -2,11 +2,12 @@
 use Rattle.std.proofs.Common.{◌≡◌, ◌⊎◌, ◌∙◌, List, [], inl, inr, sym, subst}
 use Rattle.std.specs.Prelude.{◌≢◌}
 use Rattle.k_words.specs.Words.{Text}
-use Rattle.k_answers.specs.declared.status.Status.{Status}
-use Rattle.k_answers.specs.declared.status.Status.TheVariants.{Good, BadTrace, Usage, WantOfMemory, ReadFault, WriteFault, Refused}
-use Rattle.k_answers.specs.Answers.{IsDecided, IsDue, IsAnswered, IsUnwritten}
-use Rattle.k_answers.specs.Ends.{Input, Output, SinkFailed, Took, TookFront, TookNothing}
-use Rattle.k_answers.specs.Parts.{Answers, IsWritten, Means}
+use Rattle.k_status.specs.declared.status.Status.{Status}
+use Rattle.k_status.specs.declared.status.Status.TheVariants.{Good, BadTrace, Usage, WantOfMemory, ReadFault, WriteFault, Refused}
+use Rattle.k_answers.specs.Answers.{IsDecided, IsDue, IsAnswered}
+use Rattle.k_status.specs.Telling.{IsUnwritten, Answers, IsWritten}
+use Rattle.k_status.specs.Ends.{Input, Output, SinkFailed, Took, TookFront, TookNothing}
+use Rattle.k_answers.specs.Parts.{Means}
 use Rattle.k_answers.proofs.Decided.{of_no_command, of_trace, of_script, of_big, of_good_report, of_wrong_report, of_sound_snapshot, of_faulty_snapshot, of_bad_input}
 
 -- ---- the answer and the status whose text was written

@@ -7,10 +7,10 @@ use Rattle.k_types.specs.Bounds.{most_check_bytes}
 use Rattle.k_words.specs.Words.{Text}
 use Rattle.k_trace.specs.Named.{NamedTrace}
 use Rattle.k_trace.specs.Rules.{IsTrace, Spells}
-use Rattle.k_trace.proofs.Exact.{apart, one}
+use Rattle.k_reader.proofs.Exact.{apart, one}
 use Rattle.k_history.specs.Good.{IsGoodReport, IsRefusedAt}
 use Rattle.k_history.proofs.Refusals.{proper}
-use Rattle.k_state.specs.Machines.{setup_of}
+use Rattle.k_state.specs.Setups.{setup_of}
 use Rattle.k_check.proofs.Lines.{setup_rules}
 use Rattle.k_check.proofs.Splits.{one_split}
 use Rattle.k_audit.specs.Verdicts.{IsVerdict}
@@ -23,11 +23,12 @@ use Rattle.k_spawn.specs.Scripts.{Script}
 use Rattle.k_spawn.proofs.Judging.{script_few, script_not_bad}
 use Rattle.k_answers.specs.declared.commands.Command.{Command}
 use Rattle.k_answers.specs.declared.commands.Command.TheVariants.{Run, Replay, Check, Big, Watch, Work, Snap, Audit, Tree}
-use Rattle.k_answers.specs.declared.status.Status.{Status}
-use Rattle.k_answers.specs.declared.status.Status.TheVariants.{Good, BadTrace, Usage, WantOfMemory, ReadFault, WriteFault, Refused}
-use Rattle.k_answers.specs.Answers.{IsAccomplished, IsAudited, IsBadInput, IsChecked, IsDone, IsFaulted, IsFoundWrong, IsRefusedReport, IsSampled, IsSnapped, IsSummed, IsTranslated, IsWorked, WasRead}
+use Rattle.k_status.specs.declared.status.Status.{Status}
+use Rattle.k_status.specs.declared.status.Status.TheVariants.{Good, BadTrace, Usage, WantOfMemory, ReadFault, WriteFault, Refused}
+use Rattle.k_answers.specs.Answers.{IsAccomplished, IsAudited, IsBadInput, IsChecked, IsDone, IsFaulted, IsFoundWrong, IsRefusedReport, IsSampled, IsSnapped, IsSummed, IsTranslated, IsWorked}
+use Rattle.k_status.specs.Readings.{WasRead}
 use Rattle.k_answers.specs.Commands.{command_of, IsNoCommand, ReadsSource, ReadsTrace, RunsTrace}
-use Rattle.k_answers.specs.Ends.{Input, SourceFailed}
+use Rattle.k_status.specs.Ends.{Input, SourceFailed}
 use Rattle.k_answers.specs.Inputs.{most_bytes, AreParts, AreTraceAnd, AreTraceAndReport, AreTraceAndSnapshot, IsBadFor, IsBadPart}
 use Rattle.k_answers.specs.Parts.{Means}
 

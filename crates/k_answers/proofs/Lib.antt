@@ -1,13 +1,10 @@
 pub mod Answered
 pub mod Contract
 pub mod Decided
-pub mod Handed
 pub mod Lines
 pub mod Lists
 pub mod Meanings
 pub mod Ranges
-pub mod ReadBack
-pub mod Written
 pub use Rattle.k_audit.proofs.Setups as SnapshotSetups
 pub use Rattle.k_big.proofs.Charges
 pub use Rattle.k_big.proofs.Rules

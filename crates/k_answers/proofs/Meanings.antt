@@ -11,15 +11,18 @@ use Rattle.k_history.specs.Good.{IsGoodReport}
 use Rattle.k_spawn.proofs.ScriptsAgree.{judged_agrees}
 use Rattle.k_answers.specs.declared.commands.Command.{Command}
 use Rattle.k_answers.specs.declared.commands.Command.TheVariants.{Run, Replay, Check, Big, Watch, Work, Snap, Audit, Tree}
-use Rattle.k_answers.specs.declared.status.Status.{Status}
-use Rattle.k_answers.specs.declared.status.Status.TheVariants.{Good, BadTrace, Usage, WantOfMemory, ReadFault, WriteFault, Refused}
-use Rattle.k_answers.specs.Answers.{IsChecked, IsDone, WasRead}
+use Rattle.k_status.specs.declared.status.Status.{Status}
+use Rattle.k_status.specs.declared.status.Status.TheVariants.{Good, BadTrace, Usage, WantOfMemory, ReadFault, WriteFault, Refused}
+use Rattle.k_answers.specs.Answers.{IsChecked, IsDone}
+use Rattle.k_status.specs.Readings.{WasRead}
 use Rattle.k_answers.specs.Commands.{command_of, ReadsSource, RunsTrace}
-use Rattle.k_answers.specs.Ends.{Input}
+use Rattle.k_status.specs.Ends.{Input}
 use Rattle.k_answers.specs.Inputs.{most_bytes, IsBadFor}
-use Rattle.k_answers.specs.Parts.{Means, TellsOfAudit, TellsOfBig, TellsOfBytes, TellsOfCheck, TellsOfScript, TellsOfSource}
-use Rattle.k_answers.specs.Reports.{IsFileReport, IsFileSnapshot, IsReportOf, IsSomeReport, IsWatchedReport, IsWorkReport}
-use Rattle.k_answers.proofs.ReadBack.{report_is}
+use Rattle.k_answers.specs.Parts.{Means, TellsOfAudit, TellsOfBig, TellsOfCheck, TellsOfScript}
+use Rattle.k_status.specs.Telling.{TellsOfBytes, TellsOfSource}
+use Rattle.k_status.specs.Reports.{IsFileReport, IsReportOf, IsSomeReport}
+use Rattle.k_answers.specs.Reports.{IsFileSnapshot, IsWatchedReport, IsWorkReport}
+use Rattle.k_status.proofs.ReadBack.{report_is}
 
 -- ---- the commands that run a trace
 

@@ -21,7 +21,7 @@ use Rattle.k_trace.specs.Rules.{IsTrace}
 use Rattle.k_laws.proofs.SoundSteps.{legal_sound}
 use Rattle.k_known.specs.Fits.{AreAtMostTheSerials, NumbersFit}
 use Rattle.k_known.proofs.Laws.{maxima_fit, numbers_fit, objects_are_at_most_the_serials}
-use Rattle.k_state.specs.Machines.{setup_of}
+use Rattle.k_state.specs.Setups.{setup_of}
 use Rattle.k_check.proofs.Lines.{setup_rules}
 use Rattle.k_check.proofs.Unread.{legal_unread, run_unread}
 use Rattle.k_big.proofs.Charges.{charges_small}

@@ -1,6 +1,5 @@
 -- What the program answers: the contract of its top call, a field for each status.
-use Rattle.std.specs.Prelude.{◌≡◌, ◌≢◌, ◌⊎◌, ℕ, ◌+◌, ◌≤◌, List, length, Some, Ok}
-use Rattle.std.specs.Io.KnownBytes.{Consumes, IsAtEnd}
+use Rattle.std.specs.Prelude.{◌≡◌, ◌≢◌, ◌⊎◌, ℕ, List, Some, Ok}
 use Rattle.k_types.specs.declared.event.Event.{Event}
 use Rattle.k_types.specs.FileOrder.{file_order}
 use Rattle.k_words.specs.Words.{Text}
@@ -8,7 +7,7 @@ use Rattle.k_trace.specs.Named.{NamedTrace}
 use Rattle.k_trace.specs.Rules.{Spells}
 use Rattle.k_history.specs.Good.{IsGoodReport, IsRefusedAt}
 use Rattle.k_reports.specs.Verdicts.{IsRefused}
-use Rattle.k_state.specs.Machines.{setup_of}
+use Rattle.k_state.specs.Setups.{setup_of}
 use Rattle.k_audit.specs.Verdicts.{IsVerdict}
 use Rattle.k_audit.specs.declared.verdicts.Verdict.{Verdict}
 use Rattle.k_audit.specs.declared.verdicts.Verdict.TheVariants.{Sound}
@@ -18,19 +17,16 @@ use Rattle.k_spawn.specs.Scripts.{Script}
 use Rattle.k_spawn.specs.Translation.{translation}
 use Rattle.k_answers.specs.declared.commands.Command.{Command}
 use Rattle.k_answers.specs.declared.commands.Command.TheVariants.{Replay, Check, Big, Watch, Work, Snap, Audit, Tree}
-use Rattle.k_answers.specs.declared.status.Status.{Status}
-use Rattle.k_answers.specs.declared.status.Status.TheVariants.{Good, BadTrace, Usage, WantOfMemory, ReadFault, WriteFault, Refused}
+use Rattle.k_status.specs.declared.status.Status.{Status}
+use Rattle.k_status.specs.declared.status.Status.TheVariants.{Good, BadTrace, Usage, WantOfMemory, ReadFault, WriteFault, Refused}
 use Rattle.k_answers.specs.Commands.{command_of, IsCommand, IsNoCommand, IsReading, ReadsTrace, RunsTrace}
-use Rattle.k_answers.specs.Ends.{Input, Output, SourceFailed, SinkFailed, Took, TookFront, TookNothing}
+use Rattle.k_status.specs.Ends.{Input, Output, SourceFailed, SinkFailed, Took, TookFront, TookNothing}
 use Rattle.k_answers.specs.Inputs.{most_bytes, AreTraceAndReport, AreTraceAndSnapshot, IsBadFor}
-use Rattle.k_answers.specs.Reports.{IsFileReport, IsFileSnapshot, IsReportOf, IsSummaryOf, IsWatchedReport, IsWorkReport}
-use Rattle.k_answers.specs.Texts.{usage_text, bad_trace_text, good_text, refused_text, verdict_text}
-
--- The source gave these bytes: all to the end of input, or one more than the limit where there are more.
-pub record WasRead (limit : ℕ) (input : Input) (bytes : Text) : Type 0 where
-  pub given : Consumes input.left input.rest bytes
-  pub few : length bytes ≤ limit + 1
-  pub ended : length bytes ≤ limit → IsAtEnd input.rest
+use Rattle.k_status.specs.Readings.{WasRead}
+use Rattle.k_status.specs.Reports.{IsFileReport, IsReportOf}
+use Rattle.k_answers.specs.Reports.{IsFileSnapshot, IsSummaryOf, IsWatchedReport, IsWorkReport}
+use Rattle.k_answers.specs.Texts.{usage_text, good_text, refused_text, verdict_text}
+use Rattle.k_status.specs.Texts.{bad_trace_text}
 
 -- A trace was read and run, and the text is the report of a history of it. By `replay` that is the one in the order of the file.
 pub record IsDone (words : List Text) (input : Input) (text : Text) : Type 0 where
@@ -193,9 +189,3 @@ pub record IsAnswered (words : List Text) (input : Input) (output : Output) (ans
   pub write_fault : answer ≡ WriteFault → (text : Text) × IsDue words input text × TookFront output text
   pub refused : answer ≡ Refused → (text : Text) × IsFoundWrong words input text × Took output text
   pub complete : IsDecided words input output answer
-
--- The answer is one of those that nothing is written for.
-abbrev pub IsUnwritten : Status → Type 0
-IsUnwritten WantOfMemory = Unit {0}
-IsUnwritten ReadFault = Unit {0}
-IsUnwritten _ = ⊥

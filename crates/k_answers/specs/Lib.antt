@@ -1,16 +1,13 @@
 pub mod Commands
 pub mod Texts
 pub mod Samples
-pub mod Ends
 pub mod Inputs
 pub mod Reports
 pub mod Answers
-pub mod Readings
 pub mod Scripts
 pub mod Parts
-pub mod Numbers
 pub use Rattle.k_history.specs.Good
-pub use Rattle.k_state.specs.Machines
+pub use Rattle.k_state.specs.Setups
 pub use Rattle.k_audit.specs as k_audit
 pub use Rattle.k_big.specs as k_big
 pub use Rattle.k_work.specs as k_work

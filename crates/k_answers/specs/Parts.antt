@@ -1,12 +1,9 @@
--- What the parts of a call tell: the writing of a text, the run of a trace or of the workload, the check of a report, the audit of a
--- snapshot, the judgement of an input.
-use Rattle.std.specs.Prelude.{◌≡◌, ◌≢◌, ◌⊎◌, ℕ, List, [], Result, Ok, Err}
+-- What the parts of a call tell: the run of the workload, the check of a report, the audit of a snapshot, the judgement of a script.
+use Rattle.std.specs.Prelude.{◌≡◌, ◌≢◌, ℕ, List, [], Ok}
 use Rattle.k_words.specs.Words.{Text}
 use Rattle.k_trace.specs.Named.{NamedTrace}
-use Rattle.k_trace.specs.Judgement.{IsBad}
-use Rattle.k_trace.specs.Rules.{Spells}
 use Rattle.k_reports.specs.Verdicts.{IsAccepted, IsRefused}
-use Rattle.k_state.specs.Machines.{setup_of}
+use Rattle.k_state.specs.Setups.{setup_of}
 use Rattle.k_audit.specs.Verdicts.{IsVerdict}
 use Rattle.k_audit.specs.declared.verdicts.Verdict.{Verdict}
 use Rattle.k_audit.specs.declared.verdicts.Verdict.TheVariants.{Sound}
@@ -14,38 +11,16 @@ use Rattle.k_spawn.specs.Judgement.{judgement, IsBad as IsBadScript}
 use Rattle.k_spawn.specs.Scripts.{Script}
 use Rattle.k_spawn.specs.Translation.{translation}
 use Rattle.k_answers.specs.declared.commands.Command.TheVariants.{Check, Audit}
-use Rattle.k_answers.specs.declared.status.Status.{Status}
-use Rattle.k_answers.specs.declared.status.Status.TheVariants.{Good, BadTrace, Usage, WantOfMemory, ReadFault, WriteFault, Refused}
-use Rattle.k_answers.specs.Answers.{IsAccomplished, IsBadInput, IsFoundWrong, IsMisused, IsUnwritten, WasRead}
+use Rattle.k_status.specs.declared.status.Status.{Status}
+use Rattle.k_status.specs.declared.status.Status.TheVariants.{Good, BadTrace, Usage, WantOfMemory, ReadFault, WriteFault, Refused}
+use Rattle.k_answers.specs.Answers.{IsAccomplished, IsBadInput, IsFoundWrong, IsMisused}
 use Rattle.k_answers.specs.Commands.{IsCommand, IsReading}
-use Rattle.k_answers.specs.Ends.{Input, Output, SourceFailed, Took, TookFront}
+use Rattle.k_status.specs.Ends.{Input, SourceFailed}
 use Rattle.k_answers.specs.Inputs.{AreTraceAndReport, AreTraceAndSnapshot, IsBadFor}
-use Rattle.k_answers.specs.Reports.{IsFileReport, IsSummaryOf}
-use Rattle.k_answers.specs.Texts.{bad_trace_text, good_text, refused_text, verdict_text}
-
--- The status after its text was handed to the sink.
-abbrev pub status_after : {E : Type 0} → Status → Result (Unit {0}) E → Status
-status_after status (Ok done) = status
-status_after status (Err failed) = WriteFault
-
--- The text was taken and the status is the answer; or the sink failed at a text that is written, and the answer is WriteFault.
-abbrev pub IsWritten : Output → Status → Text → Status → Type 0
-IsWritten output status text answer =
-    ((answer ≡ status) × Took output text) ⊎ ((answer ≡ WriteFault) × ¬ IsUnwritten status × TookFront output text)
-
--- Some status tells the truth, and its text was written, up to a fault of the sink.
-pub record Answers (tells : Status → Text → Type 0) (output : Output) (answer : Status) : Type 0 where
-  pub status : Status
-  pub text : Text
-  pub told : tells status text
-  pub written : IsWritten output status text answer
-
--- What each status tells of the bytes that were read as a trace, and of the text to be written, where those are the reports of a trace.
-abbrev pub TellsOfBytes : (NamedTrace → Text → Type 0) → Text → Status → Text → Type 0
-TellsOfBytes reports bytes Good text = (t : NamedTrace) × Spells bytes t × reports t text
-TellsOfBytes reports bytes BadTrace text = (line : ℕ) × (reason : ℕ) × IsBad bytes line reason × (text ≡ bad_trace_text line reason)
-TellsOfBytes reports bytes WantOfMemory text = text ≡ []
-TellsOfBytes reports bytes _ text = ⊥
+use Rattle.k_status.specs.Reports.{IsFileReport}
+use Rattle.k_answers.specs.Reports.{IsSummaryOf}
+use Rattle.k_status.specs.Texts.{bad_trace_text}
+use Rattle.k_answers.specs.Texts.{good_text, refused_text, verdict_text}
 
 -- What each status tells of a report that is checked against its trace, and of the text to be written.
 abbrev pub TellsOfReport : NamedTrace → Text → Status → Text → Type 0
@@ -83,12 +58,6 @@ TellsOfAudit bytes Refused text = (t : NamedTrace) × (snapshot : Text) × AreTr
 TellsOfAudit bytes BadTrace text = (line : ℕ) × (reason : ℕ) × IsBadFor Audit bytes line reason × (text ≡ bad_trace_text line reason)
 TellsOfAudit bytes WantOfMemory text = text ≡ []
 TellsOfAudit bytes _ text = ⊥
-
--- What each status tells of a source that is read up to this limit, by what it tells of the bytes that were read.
-abbrev pub TellsOfSource : ℕ → (Text → Status → Text → Type 0) → Input → Status → Text → Type 0
-TellsOfSource limit tells input ReadFault text = SourceFailed input × (text ≡ [])
-TellsOfSource limit tells input WantOfMemory text = text ≡ []
-TellsOfSource limit tells input status text = (bytes : Text) × WasRead limit input bytes × tells bytes status text
 
 -- What each status tells of the workload, where each process makes so many objects, and of the text to be written.
 abbrev pub TellsOfBig : ℕ → Status → Text → Type 0

@@ -1,60 +1,25 @@
--- Which texts are reports of a trace, and which are summaries of the workload.
-use Rattle.std.specs.Prelude.{◌≡◌, ℕ, ◌+◌, List, ◌∷◌, ◌++◌, length, IsTrue, Ok}
+-- Which texts are summaries of the workload, and which are a report with more behind it, or a snapshot.
+use Rattle.std.specs.Prelude.{◌≡◌, ℕ, ◌+◌, List, ◌++◌, length}
 use Rattle.k_types.specs.declared.event.Event.{Event}
-use Rattle.k_types.specs.declared.event.Event.TheVariants.{Ended}
-use Rattle.k_types.specs.declared.names.Heap.{Heap}
-use Rattle.k_types.specs.declared.names.Name.{Name}
-use Rattle.k_types.specs.Complete.{IsComplete, all_ended}
-use Rattle.k_types.specs.Effects.{step}
+use Rattle.k_types.specs.Complete.{IsComplete}
 use Rattle.k_types.specs.FileOrder.{file_order}
-use Rattle.k_types.specs.Reach.{live_everywhere}
-use Rattle.k_types.specs.State.{has}
 use Rattle.k_types.specs.Steps.{IsLegalHistory, state_after}
-use Rattle.k_types.specs.Trace.{Trace}
-use Rattle.k_order.specs.Reclaimed.{IsReclaimed}
 use Rattle.k_words.specs.Words.{Text}
 use Rattle.k_trace.specs.Named.{NamedTrace}
-use Rattle.k_text.specs.Report.{report_text}
-use Rattle.k_history.specs.Histories.{history_of}
+use Rattle.k_status.specs.Reports.{IsReportOf}
 use Rattle.k_big.specs.Summary.{summary_text}
 use Rattle.k_big.specs.Workload.{big_trace}
 use Rattle.k_watch.specs.declared.sample.Sample.{Sample}
 use Rattle.k_watch.specs.Numbers.{numbers_after}
 use Rattle.k_watch.specs.Samples.{IsLast, IsRising}
 use Rattle.k_watch.specs.Shown.{AllTellOf}
-use Rattle.k_state.specs.Machines.{setup_of}
+use Rattle.k_state.specs.Setups.{setup_of}
 use Rattle.k_audit.specs.Snapshots.{snapshot_text}
 use Rattle.k_audit.specs.Verdicts.{IsVerdict}
 use Rattle.k_audit.specs.declared.verdicts.Verdict.TheVariants.{Sound}
 use Rattle.k_work.specs.Lines.{work_text}
 use Rattle.k_work.specs.Tables.{work_of}
 use Rattle.k_answers.specs.Samples.{samples_text}
-
--- No end of a collection in the history frees an object that a living process's register, the directory or a live shared heap
--- reaches just before it.
-abbrev pub FreesNothingLive : Trace → List Event → Type 0
-FreesNothingLive trace history =
-    (before rest : List Event) (h : Heap) (objects bytes exits shares : ℕ) → history ≡ before ++ Ended h objects bytes exits shares ∷ rest
-    → (n : Name) → IsTrue (has (live_everywhere trace (state_after trace before)) n)
-    → IsTrue (has (step trace (state_after trace before) (Ended h objects bytes exits shares)).objects n)
-
--- The text is the report of the history, which can be read back from it, is legal and complete, and frees nothing live. Where every
--- process has ended in it, all memory is reclaimed.
-pub record IsReportOf (t : NamedTrace) (history : List Event) (text : Text) : Type 0 where
-  pub whole : text ≡ report_text t.names t.trace history
-  pub read_back : history_of t.names text ≡ Ok history
-  pub legal : IsLegalHistory t.trace history
-  pub complete : IsComplete t.trace history
-  pub safe : FreesNothingLive t.trace history
-  pub reclaimed : IsTrue (all_ended t.trace (state_after t.trace history)) → IsReclaimed t.trace (state_after t.trace history)
-
--- The text is the report of some history of the trace.
-abbrev pub IsSomeReport : NamedTrace → Text → Type 0
-IsSomeReport t text = (history : List Event) × IsReportOf t history text
-
--- The text is the report of the history of the trace in the order of the file.
-abbrev pub IsFileReport : NamedTrace → Text → Type 0
-IsFileReport t text = IsReportOf t (file_order t.trace) text
 
 -- The text is the summary of a history of the trace where each process makes so many objects, and the history is legal and complete.
 pub record IsSummaryOf (objects : ℕ) (text : Text) : Type 0 where

@@ -7,10 +7,10 @@ use Rattle.k_trace.specs.Rules.{IsTrace}
 use Rattle.k_spawn.specs.Judgement.{judgement, IsBad}
 use Rattle.k_spawn.specs.Scripts.{Script}
 use Rattle.k_spawn.specs.Translation.{translation}
-use Rattle.k_answers.specs.declared.run_error.RunError.{RunError}
-use Rattle.k_answers.specs.declared.run_error.RunError.TheVariants.{NoMemory, Unread, Bad}
-use Rattle.k_answers.specs.Answers.{WasRead}
-use Rattle.k_answers.specs.Ends.{Input, SourceFailed}
+use Rattle.k_status.specs.declared.run_error.RunError.{RunError}
+use Rattle.k_status.specs.declared.run_error.RunError.TheVariants.{NoMemory, Unread, Bad}
+use Rattle.k_status.specs.Readings.{WasRead}
+use Rattle.k_status.specs.Ends.{Input, SourceFailed}
 
 -- The source gave bytes that are a script of which this is the translation.
 pub record GaveScript (input : Input) (t : NamedTrace) : Type 0 where

@@ -8,10 +8,6 @@ use Rattle.k_audit.specs.declared.verdicts.Verdict.TheVariants.{Sound, Line, Poi
 unfoldable pub usage_text : Text
 usage_text = codes "usage: kaffe run | replay | check | big N | watch K | work | snap | audit | tree" ++ 10 ∷ []
 
--- What is written where the input is no trace: the first bad line, and the reason.
-unfoldable pub bad_trace_text : ℕ → ℕ → Text
-bad_trace_text line reason = codes "bad trace: line " ++ decimal line ++ codes " reason " ++ decimal reason ++ 10 ∷ []
-
 -- What is written where the report is good.
 unfoldable pub good_text : Text
 good_text = codes "good" ++ 10 ∷ []

@@ -3,14 +3,14 @@ ghost use Rattle.std.specs.Prelude.{◌≡◌, ◌<◌, ◌-◌, ◌^◌, length
 ghost use Rattle.k_types.specs.Bounds.{most_check_bytes};
 ghost use Rattle.k_trace.specs.Meaning.{meaning_of};
 ghost use Rattle.k_trace.specs.Rules.{IsTrace};
-ghost use Rattle.k_answers.specs.Answers.{IsUnwritten};
-ghost use Rattle.k_answers.specs.Parts.{Answers, TellsOfCheck, TellsOfReport, TellsOfSource};
+ghost use Rattle.k_status.specs.Telling.{IsUnwritten, Answers, TellsOfSource};
+ghost use Rattle.k_answers.specs.Parts.{TellsOfCheck, TellsOfReport};
 
 use crate::parting::parts_of;
-use crate::status::{Status, want_of_memory};
-use crate::texts::{write_bad_trace, write_good, write_refused};
+use crate::texts::{write_good, write_refused};
 use k_check::{Verdict, check_report};
 use k_io::{ReadAllError, Sink, Source, read_all};
+use k_status::{Status, want_of_memory, write_bad_trace};
 use k_trace::{Trace, TraceError};
 use k_types::MOST_CHECK_BYTES;
 use std::alloc::Global;

@@ -3,7 +3,8 @@ ghost use Rattle.std.specs.Prelude.{IfErr, IfOk};
 ghost use Rattle.k_trace.specs.Meaning.{meaning_of};
 ghost use Rattle.k_answers.specs.Inputs.{AreBadParts, AreTraceAnd};
 
-use k_trace::{Reason, Trace, TraceError, read_trace};
+use k_reader::read_trace;
+use k_trace::{Reason, Trace, TraceError};
 use k_types::MOST_CHECK_BYTES;
 use k_words::split_at_line;
 use std::alloc::Global;

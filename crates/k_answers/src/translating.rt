@@ -3,9 +3,9 @@ ghost use Rattle.std.specs.Prelude.{IfErr, IfOk};
 ghost use Rattle.k_trace.specs.Meaning.{meaning_of};
 ghost use Rattle.k_answers.specs.Scripts.{GaveScript, HasCause};
 
-use crate::run_error::RunError;
 use k_io::{ReadAllError, Source, read_all};
 use k_spawn::{ScriptError, read_script, translate};
+use k_status::RunError;
 use k_trace::Trace;
 use k_types::MOST_TRACE_BYTES;
 use std::alloc::Global;

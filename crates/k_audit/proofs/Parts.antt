@@ -3,7 +3,7 @@ use Rattle.std.proofs.Common.{ℕ, List, [], ◌∷◌, ◌++◌, Result}
 use Rattle.std.specs.Prelude.{IsErr}
 use Rattle.k_io.specs.Writing.{Writes}
 use Rattle.k_words.specs.Words.{Text, text_of}
-use Rattle.k_text.proofs.LineLemmas.{part_missing}
+use Rattle.k_report.proofs.LineLemmas.{part_missing}
 
 -- the lines, and then those of the parts
 unfoldable pub with_parts : List (List Text) → List (List (List Text)) → List (List Text)

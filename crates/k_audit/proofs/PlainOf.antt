@@ -14,7 +14,8 @@ use Rattle.k_types.specs.State.{Object, field_kind}
 use Rattle.k_types.specs.Trace.{Trace}
 use Rattle.k_words.specs.Words.{Text, line_text, text_of}
 use Rattle.k_trace.specs.Named.{DeclaredNames}
-use Rattle.k_state.specs.Machines.{AreSetupRules, IsDeclared, IsPlain}
+use Rattle.k_state.specs.Machines.{IsDeclared, IsPlain}
+use Rattle.k_state.specs.Setups.{AreSetupRules}
 use Rattle.k_audit.specs.Claims.{Snap}
 use Rattle.k_audit.specs.Grammar.{IsSpelledObject, IsSpelledPhase, IsSpelledSnap}
 use Rattle.k_audit.specs.Lines.{charge_lines, exit_line, gone_words, made_lines, object_lines, root_lines, share_words, snap_lines, snap_text}

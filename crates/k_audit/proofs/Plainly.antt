@@ -19,11 +19,10 @@ use Rattle.k_words.proofs.Spelled.{same}
 use Rattle.k_words.proofs.Again.{has_no_space, declares-at, number_of-at}
 use Rattle.k_trace.specs.Named.{DeclaredNames}
 use Rattle.k_trace.specs.Numbered.{proc_named, shared_named, type_named}
-use Rattle.k_trace.proofs.Pushed.{AreNames_front}
-use Rattle.k_trace.proofs.Tidy.{AreNames_back}
+use Rattle.k_trace.proofs.Pushed.{AreNames_front, AreNames_back}
 use Rattle.k_text.specs.Named.{AreNamed, IsNamedHeap, name_word, reference_word, segment_names, type_word}
 use Rattle.k_text.specs.Report.{content_word, kernel_charge_words, limit_charge_words, object_words, phase_words, process_charge_words, shared_charge_words}
-use Rattle.k_state.specs.Machines.{AreSetupRules}
+use Rattle.k_state.specs.Setups.{AreSetupRules}
 use Rattle.k_history.specs.Spelled.{AreProper, IsSpelledName as IsNameSpelled}
 use Rattle.k_history.proofs.Visible.{heap_plain, is_plain, limit_plain, object_plain, plain_words, proc_plain, segment_plain, shared_plain}
 use Rattle.k_audit.specs.Grammar.{IsSpelledContent, IsSpelledExit, IsSpelledName, IsSpelledObject, IsSpelledPhase, IsSpelledShare}

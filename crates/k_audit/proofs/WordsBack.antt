@@ -24,7 +24,7 @@ use Rattle.k_words.specs.Names.{declares, number_of}
 use Rattle.k_words.proofs.Spelled.{name_at, number_word, register_is, same}
 use Rattle.k_trace.specs.Named.{DeclaredNames}
 use Rattle.k_trace.specs.Numbered.{proc_named, shared_named, type_named}
-use Rattle.k_trace.proofs.OpForms.{number_below}
+use Rattle.k_trace.proofs.Pushed.{number_below}
 use Rattle.k_text.specs.Named.{IsNamedHeap, heap_word, name_word, reference_word, segment_names, type_word}
 use Rattle.k_text.specs.Report.{content_word, object_words}
 use Rattle.k_history.specs.Reading.{heap_named, name_of_word}

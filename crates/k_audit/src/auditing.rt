@@ -1,6 +1,6 @@
 //! The audit of a snapshot.
 ghost use Rattle.std.specs.Prelude.{◌<◌, ◌-◌, ◌^◌, [], IfOk, IfNone, IfSome, length};
-ghost use Rattle.k_state.specs.Machines.{AreSetupRules};
+ghost use Rattle.k_state.specs.Setups.{AreSetupRules};
 ghost use Rattle.k_types.specs.Trace.{trace_of};
 ghost use Rattle.k_text.specs.Named.{AreNamed};
 ghost use Rattle.k_history.specs.Spelled.{AreProper};

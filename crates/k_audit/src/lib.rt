@@ -2,8 +2,8 @@
 //!
 //! [`snapshot`] writes the text that the definitions give for the state of a view: all of it, or, after a fault of the sink, a front of
 //! it. It takes no memory. [`audit`] reads a snapshot over the header of a trace and answers whether what it says is sound, or which line
-//! or point is the first that is wrong. Below stand the definitions of `k_types`, the view and the parts of a report of `k_text`, the
-//! words of `k_words`, `k_trace` and `k_history`, and the lists of `k_state`.
+//! or point is the first that is wrong. Below stand the definitions of `k_types`, the view of `k_text`, the parts of a report of
+//! `k_report`, the words of `k_words`, `k_trace` and `k_history`, and the lists of `k_state`.
 #![tactic(auto)]
 
 mod auditing;

@@ -1,6 +1,6 @@
 //! The snapshot that bytes are.
 ghost use Rattle.std.specs.Prelude.{◌≡◌, ◌<◌, ◌-◌, ◌^◌, ◌==◌, [], Some, Ok, Err, IfOk, IfErr, length, drop};
-ghost use Rattle.k_state.specs.Machines.{AreSetupRules};
+ghost use Rattle.k_state.specs.Setups.{AreSetupRules};
 ghost use Rattle.k_types.specs.Trace.{process_count, trace_of};
 ghost use Rattle.k_text.specs.Named.{AreNamed};
 ghost use Rattle.k_audit.specs.Reading.{HasRead, ReadsSnap, is_over, is_whole, read_line, read_lines, unread};

@@ -8,8 +8,8 @@ ghost use Rattle.k_text.specs.Named.{AreNamed};
 ghost use Rattle.k_audit.specs.Snapshots.{gone_line, gone_lines, made_line, made_lines, snapshot_text};
 
 use k_io::{Sink, WriteFailed};
+use k_report::parts::{charges, exits, graph, heading, roots, segment_name, shares};
 use k_text::View;
-use k_text::parts::{charges, exits, graph, heading, roots, segment_name, shares};
 use k_trace::Names;
 use k_types::{Pid, Seg};
 use k_words::LineBuffer;

@@ -15,7 +15,7 @@ use Rattle.k_types.specs.TraceRules.{EndsWithExit, is_exit, is_of_version, is_sp
 use Rattle.k_base.proofs.Sums.{bit, count_is_total, one_counts, sum_same, total_append}
 use Rattle.k_laws.proofs.UsesRaised.{times}
 use Rattle.k_trace.specs.Grown.{has_exit}
-use Rattle.k_trace.proofs.OpLists.{ends_push, none_ends}
+use Rattle.k_reader.proofs.OpLists.{ends_push, none_ends}
 use Rattle.k_big.specs.Workload.{r, node, round, ending, operations_for, turns, declared_for}
 use Rattle.k_big.proofs.Rounds.{pieces_more, pieces_pass}
 

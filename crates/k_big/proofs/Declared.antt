@@ -11,8 +11,8 @@ use Rattle.k_trace.specs.Demands.{demands}
 use Rattle.k_trace.specs.Judgement.{judgement, judged_lines, judged_line, line_in, version_line, kernel_line, line_of_types, type_line, root_line, line_of_limits, limit_line, proc_line, line_of_procs, IsBad}
 use Rattle.k_trace.specs.Named.{NamedTrace}
 use Rattle.k_trace.specs.Rules.{IsTrace, Spells}
-use Rattle.k_trace.proofs.Exact.{apart, one}
-use Rattle.k_trace.proofs.Sound.{sound}
+use Rattle.k_reader.proofs.Exact.{apart, one}
+use Rattle.k_reader.proofs.Sound.{sound}
 use Rattle.k_big.specs.Worked.{of_lines}
 use Rattle.k_big.specs.Workload.{declared_for, processes, root, share}
 

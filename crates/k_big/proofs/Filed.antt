@@ -4,7 +4,7 @@ use Rattle.k_types.specs.FileOrder.{file_order}
 use Rattle.k_types.specs.State.{State}
 use Rattle.k_types.specs.Trace.{Trace}
 use Rattle.k_types.specs.TraceRules.{KeepsRules}
-use Rattle.k_state.specs.Machines.{setup_of}
+use Rattle.k_state.specs.Setups.{setup_of}
 use Rattle.k_solo.specs.Runs.{IsFiled, Run}
 use Rattle.k_big.specs.Summary.{HasSmallCharges}
 use Rattle.k_big.proofs.Charges.{charges_small}

@@ -3,7 +3,7 @@ use Rattle.std.proofs.Common.{◌≡◌, ◌∙◌, ℕ, sym, ap, List, [], ◌�
 use Rattle.std.specs.List.{join_with_byte}
 use Rattle.std.proofs.lemmas.List.{append-nil}
 use Rattle.k_words.specs.Words.{Text, line_text, text_of}
-use Rattle.k_text.proofs.LineLemmas.{text_of-append}
+use Rattle.k_report.proofs.LineLemmas.{text_of-append}
 use Rattle.k_big.specs.Summary.{count_words}
 
 -- the text is that of the lines, but for its last line feed

@@ -10,7 +10,7 @@ use Rattle.k_types.specs.declared.names.Pid.{Pid}
 use Rattle.k_types.specs.declared.op.Op.{Op}
 use Rattle.k_types.specs.Numbers.{numbers_below, numbers_from}
 use Rattle.k_base.proofs.Lists.{map_replicate}
-use Rattle.k_text.proofs.LineLemmas.{numbers_more}
+use Rattle.k_report.proofs.LineLemmas.{numbers_more}
 use Rattle.k_big.specs.Workload.{operations_for, turns}
 
 -- one more piece, the last

@@ -4,7 +4,8 @@ ghost use Rattle.k_trace.specs.Meaning.{meaning_of};
 ghost use Rattle.k_big.specs.Workload.{declared_for, most_objects, processes, root, share};
 
 use k_io::NoMemory;
-use k_trace::{Trace, TraceError, read_trace};
+use k_reader::read_trace;
+use k_trace::{Trace, TraceError};
 use k_types::{LimitId, LimitRow};
 use std::alloc::Global;
 

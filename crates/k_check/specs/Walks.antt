@@ -5,7 +5,8 @@ use Rattle.k_types.specs.Steps.{state_after}
 use Rattle.k_trace.specs.Named.{NamedTrace}
 use Rattle.k_trace.specs.Rules.{IsTrace}
 use Rattle.k_history.specs.Good.{IsBegun}
-use Rattle.k_state.specs.Machines.{Machine, setup_of}
+use Rattle.k_state.specs.Machines.{Machine}
+use Rattle.k_state.specs.Setups.{setup_of}
 
 -- The trace, and the events so far.
 pub record Walked : Type 0 where

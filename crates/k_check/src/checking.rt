@@ -11,7 +11,7 @@ use crate::lines::{Stop, read_events};
 use crate::verdicts::Verdict;
 use crate::walking::Walk;
 use k_history::MatchSink;
-use k_text::report;
+use k_report::report;
 use k_trace::Trace;
 use k_types::NoMemory;
 use std::alloc::Global;

@@ -6,7 +6,7 @@ ghost use Rattle.k_types.specs.Trace.{process_count, operations_of};
 ghost use Rattle.k_trace.specs.Meaning.{meaning_of};
 ghost use Rattle.k_trace.specs.Rules.{IsTrace};
 ghost use Rattle.k_history.specs.Good.{IsBegun};
-ghost use Rattle.k_state.specs.Machines.{setup_of};
+ghost use Rattle.k_state.specs.Setups.{setup_of};
 ghost use Rattle.k_check.specs.Turns.{IsInTurn};
 
 use k_plain::{PlainState, is_complete, plain_step};

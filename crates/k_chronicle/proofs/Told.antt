@@ -8,8 +8,8 @@ use Rattle.k_types.specs.Steps.{IsLegalHistory}
 use Rattle.k_types.specs.Trace.{Trace, trace_of}
 use Rattle.k_trace.specs.Named.{DeclaredNames}
 use Rattle.k_trace.specs.Rules.{IsTrace}
-use Rattle.k_solo.proofs.Unread.{legal_unread}
-use Rattle.k_state.specs.Machines.{setup_of}
+use Rattle.k_print.proofs.Unread.{legal_unread}
+use Rattle.k_state.specs.Setups.{setup_of}
 use Rattle.k_keeper.specs.Keeping.{IsKept}
 use Rattle.k_keeper.specs.k_guests.Serving.{open_trace}
 use Rattle.k_keeper.specs.k_host.Hosts.{HostValue}

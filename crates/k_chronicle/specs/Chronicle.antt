@@ -1,6 +1,6 @@
 -- The journal of a host, as it is printed, and when it can't be.
 use Rattle.std.specs.Prelude.{◌≢◌, ◌<◌, length}
-use Rattle.k_state.specs.Machines.{setup_of}
+use Rattle.k_state.specs.Setups.{setup_of}
 use Rattle.k_keeper.specs.k_host.Hosts.{HostValue}
 use Rattle.k_print.specs.declared.errors.PrintError.TheVariants.{Unspelled}
 use Rattle.k_print.specs.Printed.{IsNotPrinted, Journal}

@@ -8,5 +8,6 @@ mod errors;
 mod telling;
 
 pub use errors::ChronicleError;
+pub use k_keeper::{Freed, GrowError, Host, HostError, Keeper, OpenError, Rooms, Taken, Twin};
 pub use k_print::{PrintError, Printed, Texts};
 pub use telling::{chronicle, texts};

@@ -9,8 +9,8 @@ use Rattle.k_types.specs.declared.op.Op.{Op}
 use Rattle.k_types.specs.declared.op.Op.TheVariants.{New, KNew, SNew, Store, Load, Move, Clear, Dir, Put, Get, Share, Freeze, Attach, Kill as KillOther, Resize}
 use Rattle.k_embed.specs.declared.doing.Whole.{Whole}
 use Rattle.k_embed.specs.declared.doing.Whole.TheVariants.{Absorb, Collect, CollectKernel, Kill}
-use Rattle.k_keeper.specs.k_guests.declared.rooms.Rooms.{Rooms as HostRooms}
-use Rattle.k_keeper.specs.k_guests.Enough.{greater, lesser, most_events, most_room}
+use Rattle.k_chronicle.specs.k_keeper.k_guests.declared.rooms.Rooms.{Rooms as HostRooms}
+use Rattle.k_chronicle.specs.k_keeper.k_guests.Enough.{greater, lesser, most_events, most_room}
 use Rattle.k_embed.specs.declared.messages.Request.{Request}
 use Rattle.k_embed.specs.declared.messages.Rooms.{Rooms}
 

@@ -7,10 +7,10 @@ use Rattle.k_types.specs.declared.event.Fault.TheVariants.{Null, Foreign, NotSha
 use Rattle.k_types.specs.declared.event.Reply.{Reply}
 use Rattle.k_types.specs.declared.event.Reply.TheVariants.{Done, Made, Loaded, Value, Refused}
 use Rattle.k_types.specs.declared.names.Name.{Name}
-use Rattle.k_keeper.specs.OpenError.{OpenError}
-use Rattle.k_keeper.specs.OpenError.TheVariants.{Bad, NoMemory, Terms}
-use Rattle.k_keeper.specs.HostError.{HostError}
-use Rattle.k_keeper.specs.HostError.TheVariants.{Unknown, OwnCall, Ended as HasEnded, Phase, Full, NoMemory as LacksMemory, Orphan, Reserved, Objects, Items}
+use Rattle.k_chronicle.specs.k_keeper.OpenError.{OpenError}
+use Rattle.k_chronicle.specs.k_keeper.OpenError.TheVariants.{Bad, NoMemory, Terms}
+use Rattle.k_chronicle.specs.k_keeper.HostError.{HostError}
+use Rattle.k_chronicle.specs.k_keeper.HostError.TheVariants.{Unknown, OwnCall, Ended as HasEnded, Phase, Full, NoMemory as LacksMemory, Orphan, Reserved, Objects, Items}
 use Rattle.k_embed.specs.declared.messages.Answer.{Answer}
 
 -- only this is said

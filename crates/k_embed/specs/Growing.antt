@@ -1,10 +1,10 @@
 -- Larger rooms for a host behind one call.
 use Rattle.std.specs.Prelude.{◌≡◌, ℕ, Option, Some, MatchOption, Result, Ok, Err, IfErr, IfOk, OnErr}
-use Rattle.k_keeper.specs.Keeping.{KeeperValue}
-use Rattle.k_keeper.specs.Kept.{HasGrownIn}
-use Rattle.k_keeper.specs.k_host.Growing.{IsNotGrown}
-use Rattle.k_keeper.specs.k_host.declared.errors.GrowError.{GrowError}
-use Rattle.k_keeper.specs.k_host.declared.errors.GrowError.TheVariants.{NoMemory, Rooms as NotLarger}
+use Rattle.k_chronicle.specs.k_keeper.Keeping.{KeeperValue}
+use Rattle.k_chronicle.specs.k_keeper.Kept.{HasGrownIn}
+use Rattle.k_chronicle.specs.k_keeper.k_host.Growing.{IsNotGrown}
+use Rattle.k_chronicle.specs.k_keeper.k_host.declared.errors.GrowError.{GrowError}
+use Rattle.k_chronicle.specs.k_keeper.k_host.declared.errors.GrowError.TheVariants.{NoMemory, Rooms as NotLarger}
 use Rattle.k_chronicle.specs.Texts.{Texts}
 use Rattle.k_embed.specs.declared.messages.Answer.{Answer}
 use Rattle.k_embed.specs.declared.messages.Rooms.{Rooms}

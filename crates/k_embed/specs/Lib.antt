@@ -4,8 +4,8 @@ pub mod Events
 pub mod Texts
 pub mod Served
 pub mod Growing
-pub use Rattle.k_keeper.specs.Kept
-pub use Rattle.k_keeper.specs.Books
-pub use Rattle.k_keeper.specs.Limits
-pub use Rattle.k_keeper.specs.Sharers
-pub use Rattle.k_keeper.specs.Words
+pub use Rattle.k_chronicle.specs.k_keeper.Kept
+pub use Rattle.k_chronicle.specs.k_keeper.Books
+pub use Rattle.k_chronicle.specs.k_keeper.Limits
+pub use Rattle.k_chronicle.specs.k_keeper.Sharers
+pub use Rattle.k_chronicle.specs.k_keeper.Words

@@ -9,20 +9,20 @@ use Rattle.k_types.specs.Bounds.{register_count}
 use Rattle.k_types.specs.Limits.{max_of}
 use Rattle.k_types.specs.Owners.{object_bytes}
 use Rattle.k_types.specs.Totals.{total}
-use Rattle.k_keeper.specs.k_host.Hosts.{event_of}
-use Rattle.k_keeper.specs.HostError.{HostError}
-use Rattle.k_keeper.specs.Guest.{Guest}
-use Rattle.k_keeper.specs.OpenError.{OpenError}
-use Rattle.k_keeper.specs.Words.{Text}
-use Rattle.k_keeper.specs.Limits.{use_at}
-use Rattle.k_keeper.specs.Books.{book_limits}
-use Rattle.k_keeper.specs.Sharers.{lowest_orphan}
-use Rattle.k_keeper.specs.Asked.{charge_told, done_by, has_ended_of, heap_bytes_of, held_by}
-use Rattle.k_keeper.specs.Calls.{HasAbsorbedIn, HasCollectedIn, HasExitedIn, HasOperatedIn}
-use Rattle.k_keeper.specs.Whole.{AreFreedLast}
-use Rattle.k_keeper.specs.Keeping.{KeeperValue}
-use Rattle.k_keeper.specs.k_host.declared.taking.Taken.{Taken}
-use Rattle.k_keeper.specs.Kept.{HasCollectedAll, HasOpened, HasTaken, HasTakenNone, IsGone, IsNotOpened, MayRefuseCollection, MayRefuseKernel, MayRefuseOperation, MayRefuseToAbsorb}
+use Rattle.k_chronicle.specs.k_keeper.k_host.Hosts.{event_of}
+use Rattle.k_chronicle.specs.k_keeper.HostError.{HostError}
+use Rattle.k_chronicle.specs.k_keeper.Guest.{Guest}
+use Rattle.k_chronicle.specs.k_keeper.OpenError.{OpenError}
+use Rattle.k_chronicle.specs.k_keeper.Words.{Text}
+use Rattle.k_chronicle.specs.k_keeper.Limits.{use_at}
+use Rattle.k_chronicle.specs.k_keeper.Books.{book_limits}
+use Rattle.k_chronicle.specs.k_keeper.Sharers.{lowest_orphan}
+use Rattle.k_chronicle.specs.k_keeper.Asked.{charge_told, done_by, has_ended_of, heap_bytes_of, held_by}
+use Rattle.k_chronicle.specs.k_keeper.Calls.{HasAbsorbedIn, HasCollectedIn, HasExitedIn, HasOperatedIn}
+use Rattle.k_chronicle.specs.k_keeper.Whole.{AreFreedLast}
+use Rattle.k_chronicle.specs.k_keeper.Keeping.{KeeperValue}
+use Rattle.k_chronicle.specs.k_keeper.k_host.declared.taking.Taken.{Taken}
+use Rattle.k_chronicle.specs.k_keeper.Kept.{HasCollectedAll, HasOpened, HasTaken, HasTakenNone, IsGone, IsNotOpened, MayRefuseCollection, MayRefuseKernel, MayRefuseOperation, MayRefuseToAbsorb}
 use Rattle.k_embed.specs.declared.doing.Whole.{Whole}
 use Rattle.k_embed.specs.declared.doing.Whole.TheVariants.{Absorb, Collect, CollectKernel, Kill}
 use Rattle.k_embed.specs.declared.messages.Answer.{Answer}

@@ -1,9 +1,9 @@
 -- What is printed of a host behind one call, and what is copied of it.
 use Rattle.std.specs.Prelude.{◌≡◌, ℕ, ◌-◌, ◌++◌, ◌==◌, if◌then◌else◌, List, [], Option, Some, None, Result, Ok, Err, IfErr, IfOk, OnErr, drop, length, min, take}
-use Rattle.k_keeper.specs.Words.{Text}
-use Rattle.k_keeper.specs.Keeping.{KeeperValue}
-use Rattle.k_keeper.specs.Publishing.{HasPublishedEach}
-use Rattle.k_keeper.specs.k_host.Hosts.{HostValue}
+use Rattle.k_chronicle.specs.k_keeper.Words.{Text}
+use Rattle.k_chronicle.specs.k_keeper.Keeping.{KeeperValue}
+use Rattle.k_chronicle.specs.k_keeper.Publishing.{HasPublishedEach}
+use Rattle.k_chronicle.specs.k_keeper.k_host.Hosts.{HostValue}
 use Rattle.k_chronicle.specs.Texts.{Texts}
 use Rattle.k_chronicle.specs.PrintError.{PrintError}
 use Rattle.k_chronicle.specs.PrintError.TheVariants.{NoMemory, Unspelled, TooMany, TooLong, Open, Over}

@@ -2,17 +2,17 @@
 ghost use Rattle.std.specs.Prelude.{◌≡◌, Some, None, nat_lt, if◌then◌else◌, length, option_map, slice_get};
 ghost use Rattle.k_types.specs.Bounds.{register_count};
 ghost use Rattle.k_types.specs.Limits.{max_of};
-ghost use Rattle.k_keeper.specs.Asked.{held_by};
-ghost use Rattle.k_keeper.specs.Books.{book_limits};
-ghost use Rattle.k_keeper.specs.Limits.{use_at};
-ghost use Rattle.k_keeper.specs.Sharers.{lowest_orphan};
+ghost use Rattle.k_chronicle.specs.k_keeper.Asked.{held_by};
+ghost use Rattle.k_chronicle.specs.k_keeper.Books.{book_limits};
+ghost use Rattle.k_chronicle.specs.k_keeper.Limits.{use_at};
+ghost use Rattle.k_chronicle.specs.k_keeper.Sharers.{lowest_orphan};
 ghost use Rattle.k_embed.specs.Codes.{of_found};
 ghost use Rattle.k_embed.specs.Served.{lives_of, told_of};
 
 use crate::codes::{number, of_held, of_listed, of_number, unknown};
 use crate::events::{event_asked, event_came};
 use crate::messages::{Answer, Request};
-use k_keeper::{Host, Keeper};
+use k_chronicle::{Host, Keeper};
 use k_types::{LimitId, Name, Pid, Reg};
 
 /// What the register of the process holds.

@@ -3,7 +3,7 @@ ghost use Rattle.std.specs.Prelude.{◌≡◌};
 ghost use Rattle.k_embed.specs.Codes.{of_error, of_event, of_fault, of_found, of_held, of_listed, of_name, of_no_host, of_number, of_reply, of_result, of_target, plain};
 
 use crate::messages::Answer;
-use k_keeper::HostError;
+use k_chronicle::HostError;
 use k_types::{Event, Fault, Name, Reply};
 
 /// An answer that says only this.

@@ -5,7 +5,7 @@ ghost use Rattle.k_embed.specs.Asked.{base_of, operation_of, reg_of, type_of, wh
 ghost use Rattle.k_embed.specs.Served.{HasCome};
 
 use crate::messages::Request;
-use k_keeper::{HostError, Keeper};
+use k_chronicle::{HostError, Keeper};
 use k_types::{Event, LimitId, Op, Pid, Reg, SharedId, TypeId};
 
 /// A call that is no operation, and changes a host.

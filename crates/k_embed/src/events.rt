@@ -1,6 +1,6 @@
 //! Events in numbers: what each was asked for, what came of it, and the next one that is taken out.
 ghost use Rattle.std.specs.Prelude.{◌≡◌, ◌<◌};
-ghost use Rattle.k_keeper.specs.k_host.Hosts.{event_of};
+ghost use Rattle.k_chronicle.specs.k_keeper.k_host.Hosts.{event_of};
 ghost use Rattle.k_embed.specs.Asked.{is_take};
 ghost use Rattle.k_embed.specs.Codes.{of_event};
 ghost use Rattle.k_embed.specs.Events.{asked_by, asked_of, asked_op, of_ended, of_seen, of_taken};
@@ -8,7 +8,7 @@ ghost use Rattle.k_embed.specs.Served.{IsTaken};
 
 use crate::codes::{done, happened, number, unknown};
 use crate::messages::{Answer, Request};
-use k_keeper::{Host, Keeper, Taken};
+use k_chronicle::{Host, Keeper, Taken};
 use k_types::{Event, Heap, Op, Pid};
 
 /// The numbers of a request by which the process has asked: its call, process, `at`, registers and number.

@@ -5,7 +5,7 @@ ghost use Rattle.k_embed.specs.Growing.{IsGrown, IsGrownIn, of_grown};
 use crate::codes::{lacking_host, number, plain};
 use crate::messages::{Answer, Rooms};
 use crate::serving::{Slot, rooms_of};
-use k_keeper::{GrowError, Keeper};
+use k_chronicle::{GrowError, Keeper};
 
 /// What came of it: how many of the last events can be read now, or why the rooms are those that they were.
 fn of_grown(came: Result<u32, GrowError>) -> Answer

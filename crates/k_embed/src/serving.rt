@@ -12,8 +12,7 @@ use crate::doing::{
 use crate::events::{is_take, take_next};
 use crate::messages::{Answer, Request, Rooms};
 use crate::texts::{copy_text, is_print, is_publish, print, publish};
-use k_chronicle::Texts;
-use k_keeper::{Keeper, OpenError};
+use k_chronicle::{Keeper, OpenError, Texts};
 use k_types::{Op, Pid, TypeId};
 use std::alloc::Global;
 
@@ -56,10 +55,10 @@ fn empty(alloc: Global, why: OpenError) -> Slot
 }
 
 /// The rooms that are asked for.
-pub fn rooms_of(asked: Rooms) -> k_keeper::Rooms
+pub fn rooms_of(asked: Rooms) -> k_chronicle::Rooms
     ensures { result ≡ rooms_of asked }
 {
-    k_keeper::Rooms {
+    k_chronicle::Rooms {
         events: asked.events,
         kept: asked.kept,
         tail: asked.tail,
@@ -74,7 +73,7 @@ pub fn rooms_of(asked: Rooms) -> k_keeper::Rooms
 pub fn rooms_for(objects: u32, processes: u32, heaps: u32) -> Rooms
     ensures { AreRoomsFor objects processes heaps result }
 {
-    let rooms = k_keeper::Rooms::for_objects(objects, processes, heaps);
+    let rooms = k_chronicle::Rooms::for_objects(objects, processes, heaps);
     Rooms {
         events: rooms.events,
         kept: rooms.kept,

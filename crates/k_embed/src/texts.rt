@@ -6,8 +6,7 @@ ghost use Rattle.k_embed.specs.Texts.{IsCopied, IsPrinted, IsPublished, bytes_of
 
 use crate::codes::{done, plain};
 use crate::messages::{Answer, Request};
-use k_chronicle::{ChronicleError, PrintError, Texts, texts};
-use k_keeper::Keeper;
+use k_chronicle::{ChronicleError, Keeper, PrintError, Texts, texts};
 use std::alloc::Global;
 
 /// Whether the request publishes what the processes did inside their heaps.

@@ -13,7 +13,8 @@ use Rattle.k_types.specs.TraceRules.{KeepsRules}
 use Rattle.k_frame.proofs.Histories.{legal_front, legal_rest, run_append}
 use Rattle.k_known.proofs.KnownEvents.{history_known}
 use Rattle.k_plain.proofs.FileOrders.{file_order_complete, file_order_legal, order_end}
-use Rattle.k_state.specs.Machines.{Machine, setup_of}
+use Rattle.k_state.specs.Machines.{Machine}
+use Rattle.k_state.specs.Setups.{setup_of}
 use Rattle.k_solo.specs.Runs.{IsFiled}
 use Rattle.k_filed.specs.Taken.{HasTaken}
 use Rattle.k_solo.proofs.Lines.{setup_rules}

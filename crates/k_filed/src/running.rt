@@ -1,7 +1,7 @@
 //! The run of a whole trace on the caller's thread.
 ghost use Rattle.std.specs.Prelude.{◌≡◌, ◌<◌, IfOk, List, map, option_copied, slice_get, slice_index_or};
 ghost use Rattle.k_solo.specs.Runs.{IsFiled};
-ghost use Rattle.k_state.specs.Machines.{setup_of};
+ghost use Rattle.k_state.specs.Setups.{setup_of};
 ghost use Rattle.k_trace.specs.Meaning.{meaning_of};
 ghost use Rattle.k_types.specs.FileOrder.{next_operation};
 ghost use Rattle.k_types.specs.Trace.{Trace as Meant, process_count};

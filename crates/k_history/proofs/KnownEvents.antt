@@ -14,7 +14,7 @@ use Rattle.k_types.specs.Trace.{IsHeap}
 use Rattle.k_types.specs.Known.{IsKnownName, IsKnownFault, IsKnownReply, IsKnownEvent}
 use Rattle.k_trace.specs.Named.{NamedTrace}
 use Rattle.k_trace.specs.Rules.{IsTrace}
-use Rattle.k_trace.proofs.OpForms.{AreNamed}
+use Rattle.k_reader.proofs.OpForms.{AreNamed}
 use Rattle.k_text.specs.Named.{IsNamedHeap, IsNamedFault}
 use Rattle.k_history.specs.Spelled.{IsSpelledName, IsSpelledReply, IsSpelledEvent, IsReplyInRange, IsInRange}
 use Rattle.k_history.proofs.SpelledOps.{spelled_op}

@@ -10,8 +10,7 @@ use Rattle.k_words.specs.Names.{is_name, declares}
 use Rattle.k_words.proofs.Spelled.{both, same}
 use Rattle.k_trace.specs.Named.{DeclaredNames}
 use Rattle.k_trace.specs.Spelling.{op_words}
-use Rattle.k_trace.proofs.Pushed.{AreNames_front}
-use Rattle.k_trace.proofs.Tidy.{AreNames_back}
+use Rattle.k_trace.proofs.Pushed.{AreNames_front, AreNames_back}
 use Rattle.k_history.specs.Spelled.{AreProper, IsSpelledOp}
 use Rattle.k_history.specs.Reading.{is_equals}
 use Rattle.k_history.proofs.SpelledWords.{name_is_not, decimal_is_not}

@@ -20,8 +20,8 @@ use Rattle.k_trace.specs.Named.{DeclaredNames}
 use Rattle.k_trace.specs.Numbered.{shared_named}
 use Rattle.k_trace.specs.Spelling.{op_words}
 use Rattle.k_trace.specs.Forms.{op_of, register_op, bare_op, sharing_op, governing_op}
-use Rattle.k_trace.proofs.OpForms.{one, two, number_below}
-use Rattle.k_trace.proofs.Pushed.{AreNames_front}
+use Rattle.k_reader.proofs.OpForms.{one, two}
+use Rattle.k_trace.proofs.Pushed.{AreNames_front, number_below}
 use Rattle.k_text.specs.EventLines.{event_words, reply_words}
 use Rattle.k_history.specs.Spelled.{AreProper, IsSpelledOp, IsSpelledEvent}
 use Rattle.k_history.specs.Reading.{heap_named, reply_of, ended_of, absorbed_of, closing_of, is_equals, done_with, done_of, event_of}

@@ -14,9 +14,8 @@ use Rattle.k_words.proofs.Spelled.{same, name_at}
 use Rattle.k_words.proofs.Again.{number_of-at, declares-at}
 use Rattle.k_trace.specs.Named.{DeclaredNames}
 use Rattle.k_trace.specs.Numbered.{limit_named, proc_named, shared_named}
-use Rattle.k_trace.proofs.OpForms.{one, two, number_below}
-use Rattle.k_trace.proofs.Pushed.{AreNames_front}
-use Rattle.k_trace.proofs.Tidy.{AreNames_back}
+use Rattle.k_reader.proofs.OpForms.{one, two}
+use Rattle.k_trace.proofs.Pushed.{AreNames_front, number_below, AreNames_back}
 use Rattle.k_text.specs.Named.{IsNamedFault}
 use Rattle.k_text.specs.EventLines.{fault_words}
 use Rattle.k_history.specs.Spelled.{AreProper}

@@ -17,10 +17,9 @@ use Rattle.k_words.proofs.Proper.{both_are}
 use Rattle.k_trace.specs.Named.{DeclaredNames, NamedTrace}
 use Rattle.k_trace.specs.Spelling.{op_words}
 use Rattle.k_trace.specs.Forms.{op_of}
-use Rattle.k_trace.proofs.OpForms.{AreNamed, op_found}
-use Rattle.k_trace.proofs.OpAgain.{type_below, limit_below, proc_below, shared_below, op_again}
-use Rattle.k_trace.proofs.Pushed.{AreNames_front}
-use Rattle.k_trace.proofs.Tidy.{AreNames_back}
+use Rattle.k_reader.proofs.OpForms.{AreNamed, op_found}
+use Rattle.k_reader.proofs.OpAgain.{type_below, limit_below, proc_below, shared_below, op_again}
+use Rattle.k_trace.proofs.Pushed.{AreNames_front, AreNames_back}
 use Rattle.k_history.specs.Spelled.{AreProper, IsSpelledOp}
 
 type_in : (t : NamedTrace) (ty : TypeId) → AreNamed t → ty.0 < length t.names.types → ltb ty.0 (length t.trace.types) ≡ true

@@ -14,7 +14,7 @@ use Rattle.k_words.specs.Numbers.{is_below, value}
 use Rattle.k_words.proofs.Spelled.{same, number_word}
 use Rattle.k_words.proofs.Again.{value-decimal, is_below-decimal}
 use Rattle.k_trace.specs.Named.{DeclaredNames}
-use Rattle.k_trace.proofs.OpForms.{one}
+use Rattle.k_reader.proofs.OpForms.{one}
 use Rattle.k_text.specs.Named.{name_word, segment_names}
 use Rattle.k_text.specs.EventLines.{reply_words, fault_words}
 use Rattle.k_history.specs.Spelled.{AreProper, IsSpelledName, IsSpelledReply, makes}

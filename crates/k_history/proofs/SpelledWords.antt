@@ -22,10 +22,8 @@ use Rattle.k_words.proofs.Proper.{all_weaker}
 use Rattle.k_trace.specs.Named.{DeclaredNames}
 use Rattle.k_trace.specs.Rules.{AreNames}
 use Rattle.k_trace.specs.Numbered.{proc_named, shared_named}
-use Rattle.k_trace.proofs.OpForms.{number_below}
-use Rattle.k_trace.proofs.Found.{not_true}
-use Rattle.k_trace.proofs.Pushed.{AreNames_front}
-use Rattle.k_trace.proofs.Tidy.{AreNames_back}
+use Rattle.k_reader.proofs.Found.{not_true}
+use Rattle.k_trace.proofs.Pushed.{AreNames_front, number_below, AreNames_back}
 use Rattle.k_text.specs.Named.{segment_names, name_word, heap_word, IsNamedHeap}
 use Rattle.k_history.specs.Spelled.{AreProper, IsSpelledName}
 use Rattle.k_history.specs.Reading.{segment_named, name_in, is_dot, name_of_word, heap_named}

@@ -21,8 +21,7 @@ use Rattle.k_words.proofs.Proper.{is_visible, visible_no_space, is_word, all_wea
 use Rattle.k_trace.specs.Named.{DeclaredNames}
 use Rattle.k_trace.specs.Rules.{AreNames}
 use Rattle.k_trace.specs.Spelling.{op_words}
-use Rattle.k_trace.proofs.Pushed.{AreNames_front}
-use Rattle.k_trace.proofs.Tidy.{AreNames_back}
+use Rattle.k_trace.proofs.Pushed.{AreNames_front, AreNames_back}
 use Rattle.k_text.specs.Named.{segment_names, name_word, heap_word, IsNamedHeap, IsNamedFault}
 use Rattle.k_text.specs.EventLines.{fault_words, reply_words, event_words}
 use Rattle.k_history.specs.Spelled.{AreProper, IsSpelledName, IsSpelledReply, IsSpelledEvent}

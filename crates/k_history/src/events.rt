@@ -5,7 +5,8 @@ ghost use Rattle.k_history.specs.Reading.{heap_named, ended_of, absorbed_of, clo
 
 use crate::replies::read_reply;
 use crate::words::parted;
-use k_trace::{Names, read_op};
+use k_reader::read_op;
+use k_trace::Names;
 use k_types::{Event, Heap};
 use k_words::{after_word, is, number, word, word_count};
 

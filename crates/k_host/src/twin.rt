@@ -1,7 +1,7 @@
 //! The machine on one thread, which takes the events that a host answers.
 ghost use Rattle.std.specs.Prelude.{◌≡◌, IfOk, IsFalse, IsTrue, OnErr, []};
 ghost use Rattle.k_types.specs.Trace.{trace_of};
-ghost use Rattle.k_state.specs.Machines.{AreSetupRules};
+ghost use Rattle.k_state.specs.Setups.{AreSetupRules};
 ghost use Rattle.k_host.specs.Twins.{RefusesEvent, TakesEvent, first_twin};
 
 use k_plain::{PlainState, plain_step};

@@ -1,7 +1,7 @@
 //! The write barrier, with no read barrier.
 use crate::driving::operate;
 use crate::usual::{P1, P2, dir, let_go, load, name, new, store, usual};
-use k_keeper::Host;
+use k_chronicle::Host;
 use k_types::{Event, Fault, Op, Pid, Reply};
 use std::process::Abort;
 use std::test::Fail;

@@ -1,7 +1,7 @@
 //! Hosts with little room for one thing each.
 use crate::driving::operate;
 use crate::usual::{NODE, P1, USUAL, clear, let_go, new, rooms, store};
-use k_keeper::{Host, HostError, Keeper, Rooms, Taken};
+use k_chronicle::{Host, HostError, Keeper, Rooms, Taken};
 use k_types::{Op, Reg};
 use std::process::Abort;
 use std::test::Fail;

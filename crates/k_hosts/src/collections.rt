@@ -4,7 +4,7 @@ use crate::driving::{
     settle_kernel,
 };
 use crate::usual::{P1, P2, clear, dir, let_go, new, store, usual};
-use k_keeper::Host;
+use k_chronicle::Host;
 use k_types::{CellPhase, Event, Heap, Op, Pid, Reply};
 use std::process::Abort;
 use std::test::Fail;

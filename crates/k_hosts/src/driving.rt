@@ -1,5 +1,5 @@
 //! The calls of a host as tests make them, each in a function that promises nothing, so that a test of many calls is proved quickly.
-use k_keeper::{Freed, Host, HostError};
+use k_chronicle::{Freed, Host, HostError};
 use k_types::{Event, Op, Pid, Reply, SharedId};
 
 pub(crate) fn operate(host: &mut Host, pid: Pid, op: &Op) -> Result<Event, HostError> {

@@ -1,7 +1,7 @@
 //! Operations inside one heap.
 use crate::driving::{local, operate, publish};
 use crate::usual::{P1, let_go, new, usual};
-use k_keeper::Host;
+use k_chronicle::Host;
 use k_types::{Op, Reg, Reply};
 use std::process::Abort;
 use std::test::Fail;

@@ -1,6 +1,6 @@
 //! A keeper of which one operation has used up all but the reserve.
 use crate::usual::{NODE, P1, P2, S, USUAL, new, rooms, share};
-use k_keeper::{HostError, Keeper, OpenError};
+use k_chronicle::{HostError, Keeper, OpenError};
 use k_types::{Event, Op, Pid, SharedId};
 use std::alloc::Global;
 use std::process::Abort;

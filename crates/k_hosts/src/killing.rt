@@ -1,8 +1,8 @@
 //! Kills and resizes on a host: what a process may do to those below it.
 use crate::driving::{begin_heap, begin_kernel, charge, operate, settle_heap, settle_kernel};
 use crate::usual::{NODE, dir, let_go, name, new, rooms, store};
+use k_chronicle::{Host, HostError, Twin};
 use k_io::NoMemory;
-use k_keeper::{Host, HostError, Twin};
 use k_types::{Event, Fault, LimitId, Op, Pid, Reply};
 use std::alloc::Global;
 use std::process::Abort;

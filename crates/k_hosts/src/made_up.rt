@@ -3,8 +3,8 @@ use crate::driving::{
     begin_heap, begin_kernel, end_heap, end_kernel, mark_heap, mark_kernel, operate,
 };
 use crate::usual::{NODE, P1, P2, S, let_go, share, usual};
+use k_chronicle::{Host, HostError, Twin};
 use k_io::NoMemory;
-use k_keeper::{Host, HostError, Twin};
 use k_types::{Event, Op, Pid, Reg, Reply};
 use std::alloc::Global;
 use std::process::Abort;

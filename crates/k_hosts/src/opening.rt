@@ -1,6 +1,6 @@
 //! Which hosts are not made.
 use crate::usual::{NODE, USUAL, rooms};
-use k_keeper::{Host, OpenError};
+use k_chronicle::{Host, OpenError};
 use k_types::TypeId;
 use std::test::Fail;
 

@@ -4,10 +4,10 @@ ghost use Rattle.k_trace.specs.Rules.{IsTrace};
 
 use crate::usual::{NODE, P1, P2, USUAL, load, new, rooms, share, store};
 use k_check::{Verdict, check_report};
-use k_chronicle::{ChronicleError, PrintError, Printed, chronicle};
+use k_chronicle::{ChronicleError, HostError, Keeper, PrintError, Printed, Rooms, chronicle};
 use k_io::MemSink;
-use k_keeper::{HostError, Keeper, Rooms};
-use k_trace::{Trace, read_trace};
+use k_reader::read_trace;
+use k_trace::Trace;
 use k_types::{Event, Op, Pid, Reg};
 use std::alloc::Global;
 use std::process::Abort;

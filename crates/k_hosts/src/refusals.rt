@@ -3,7 +3,7 @@ use crate::driving::{
     absorb, begin_heap, begin_kernel, exit, meet, operate, publish, settle_kernel,
 };
 use crate::usual::{NODE, P1, P2, S, USUAL, clear, let_go, new, rooms, share, usual};
-use k_keeper::{Host, HostError};
+use k_chronicle::{Host, HostError};
 use k_types::{Op, Pid, Reg};
 use std::process::Abort;
 use std::test::Fail;

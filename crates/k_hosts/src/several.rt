@@ -1,7 +1,7 @@
 //! Objects of several types in one heap, with a supply of one of them.
 use crate::driving::{charge, operate};
 use crate::usual::{NODE, P1, P2, let_go, new, rooms};
-use k_keeper::{Host, HostError};
+use k_chronicle::{Host, HostError};
 use k_types::{Event, Op, Reg, Reply, TypeId};
 use std::process::Abort;
 use std::test::Fail;

@@ -1,5 +1,5 @@
 //! The setup with which hosts are tested, and operations on it.
-use k_keeper::{Host, OpenError, Rooms};
+use k_chronicle::{Host, OpenError, Rooms};
 use k_types::{Name, Op, Pid, Reg, Seg, Serial, SharedId, TypeId};
 use std::alloc::Global;
 

@@ -2,7 +2,7 @@
 use crate::collections::ended;
 use crate::driving::{charge, collect, collect_kernel, exit, meet, operate};
 use crate::usual::{EVENTS, NODE, P1, P2, USUAL, let_go, name, new, rooms, usual};
-use k_keeper::{Freed, Host, HostError};
+use k_chronicle::{Freed, Host, HostError};
 use k_types::{Heap, Name};
 use std::process::Abort;
 use std::test::Fail;

@@ -8,8 +8,8 @@ use Rattle.k_base.specs.Distinct.{AreDistinctNames}
 use Rattle.k_base.proofs.Numbered.{element_at}
 use Rattle.k_types.specs.Trace.{Trace, segment_count}
 use Rattle.k_text.specs.Shown.{in_order}
-use Rattle.k_solo.specs.Runs.{heap_at}
-use Rattle.k_solo.proofs.Arranged.{row_at}
+use Rattle.k_shown.specs.Heaps.{heap_at}
+use Rattle.k_shown.proofs.Arranged.{row_at}
 use Rattle.k_process.specs.Over.{OutcomeValue}
 use Rattle.k_outcome.specs.Cells.{cell_at}
 use Rattle.k_outcome.specs.Listed.{AreTargets, CanList}

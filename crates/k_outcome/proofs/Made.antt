@@ -26,7 +26,7 @@ use Rattle.k_base.proofs.Lists.{if_some}
 use Rattle.k_frame.proofs.Sizes.{history_sized}
 use Rattle.k_frame.proofs.Rest.{freeze_rest, kill_rest, put_rest, store_rest}
 use Rattle.k_outcome.specs.Listed.{made_by, made_in_reply, with_given}
-use Rattle.k_state.proofs.Shapes.{all_got}
+use Rattle.k_setup.proofs.Shapes.{all_got}
 
 module _ (trace : Trace) where
   effect_given : (st : State) (p : ℕ) (op : Op) → (effect trace p op st).made ≡ with_given (made_in_reply (answer trace st p op)) st.made

@@ -28,10 +28,10 @@ use Rattle.k_process.proofs.RoomLeft.{shared_room}
 use Rattle.k_trace.specs.Named.{DeclaredNames}
 use Rattle.k_text.specs.Report.{report_text, text_over}
 use Rattle.k_text.proofs.Setups.{setup_alone}
-use Rattle.k_state.specs.Machines.{setup_of}
-use Rattle.k_solo.specs.Runs.{heap_at}
-use Rattle.k_solo.proofs.Lines.{setup_rules}
-use Rattle.k_solo.proofs.Unread.{legal_unread, run_unread}
+use Rattle.k_setup.specs.Setups.{setup_of}
+use Rattle.k_shown.specs.Heaps.{heap_at}
+use Rattle.k_setup.proofs.Lines.{setup_rules}
+use Rattle.k_setup.proofs.Unread.{legal_unread, run_unread}
 use Rattle.k_process.specs.Over.{OutcomeValue}
 use Rattle.k_outcome.specs.Cells.{IsThere, cell_at, process_value, shared_value}
 use Rattle.k_outcome.specs.Ends.{EndsRun, IsEnd}

@@ -9,7 +9,7 @@ use Rattle.k_types.specs.Sound.{AreDistinctExits}
 use Rattle.k_types.specs.State.{ExitItem, has_exit}
 use Rattle.k_base.specs.Distinct.{AreDistinctNames}
 use Rattle.k_text.specs.Shown.{in_order}
-use Rattle.k_solo.proofs.Sorted.{sorted_exits, targets_among, targets_of}
+use Rattle.k_shown.proofs.Sorted.{sorted_exits, targets_among, targets_of}
 
 -- exit items of one heap with these targets
 abbrev items : List Name → List ExitItem

@@ -36,11 +36,11 @@ use Rattle.k_book.proofs.Telling.{tells, tells_limits}
 use Rattle.k_cell.specs.Looks.{field_among, field_count_among, type_among, type_of_some}
 use Rattle.k_text.specs.Shown.{exits_of, in_order, type_at}
 use Rattle.k_text.proofs.InOrder.{in_order_among, in_order_rises, rising_exits}
-use Rattle.k_solo.proofs.Arranged.{exits_length}
+use Rattle.k_shown.proofs.Arranged.{exits_length}
 use Rattle.k_process.specs.Over.{OutcomeValue}
 use Rattle.k_outcome.specs.Cells.{IsThere, cell_at}
 use Rattle.k_outcome.specs.Ends.{EndValue, IsEnd, journal_of, last_state}
-use Rattle.k_state.proofs.Shapes.{all_got}
+use Rattle.k_setup.proofs.Shapes.{all_got}
 use Rattle.k_base.proofs.Owners.{owner_known}
 
 type_told : (o : Option Object) → type_of_some o ≡ option_and_then (λ (x : Object). x.ty) o

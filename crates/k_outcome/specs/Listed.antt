@@ -19,7 +19,7 @@ use Rattle.k_agree.specs.Rooms.{exit_room}
 use Rattle.k_process.specs.Rooms.{shared_exit_room}
 use Rattle.k_text.specs.Shown.{in_order}
 use Rattle.k_process.specs.Over.{OutcomeValue}
-use Rattle.k_solo.specs.Runs.{heap_at}
+use Rattle.k_shown.specs.Heaps.{heap_at}
 use Rattle.k_outcome.specs.Cells.{IsThere, cell_at}
 use Rattle.k_outcome.specs.Ends.{EndValue, EndsRun, IsEnd, last_state}
 

@@ -25,7 +25,7 @@ mod splitting;
 pub use errors::PartError;
 pub use head::Head;
 pub use k_ends::{Came, HostError, Reach, Terms};
-pub use k_host::{Host, OpenError, Taken};
+pub use k_host::{Host, OpenError, Rooms, Taken};
 pub use k_types::NoMemory;
 pub use laws::parts_are_one_host;
 pub use names::{AnyHost, HostName};

@@ -1,5 +1,4 @@
 pub mod Ends
-pub mod Held
 pub mod Moved
 pub mod DoneOperations
 pub mod Quiets

@@ -14,7 +14,7 @@ use Rattle.k_history.proofs.Refusals.{good_is_not_refused}
 use Rattle.k_reports.specs.Verdicts.{IsAccepted}
 use Rattle.k_reports.proofs.Spelled.{all_spelled}
 use Rattle.k_solo.proofs.Lines.{setup_rules}
-use Rattle.k_state.specs.Machines.{AreSetupRules, setup_of}
+use Rattle.k_state.specs.Setups.{AreSetupRules, setup_of}
 use Rattle.k_print.specs.Done.{order_of, trace_done}
 use Rattle.k_print.specs.Printed.{CanBeTraced, GoesOn, IsJournal, Journal, named_done, report_of}
 use Rattle.k_print.proofs.Legal.{counted_all}

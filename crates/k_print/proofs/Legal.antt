@@ -22,7 +22,7 @@ use Rattle.k_types.specs.Updates.{clear_registers, count_done, end_process, keep
 use Rattle.k_bounds.specs.Counts.{operation_count}
 use Rattle.k_kept.proofs.Owning.{step_ended}
 use Rattle.k_solo.proofs.Unread.{possible_read, step_unread}
-use Rattle.k_state.specs.Machines.{setup_of}
+use Rattle.k_state.specs.Setups.{setup_of}
 use Rattle.k_spell.specs.Spelled.{is_spelled_event}
 use Rattle.k_print.specs.Done.{order_of}
 

@@ -16,7 +16,7 @@ use Rattle.k_types.specs.Steps.{IsLegalHistory, done_by}
 use Rattle.k_types.specs.Trace.{Trace, operations_of, process_count}
 use Rattle.k_base.proofs.Lists.{numbers_length}
 use Rattle.k_words.specs.Words.{Text, text_of}
-use Rattle.k_text.proofs.LineLemmas.{text_of-append}
+use Rattle.k_report.proofs.LineLemmas.{text_of-append}
 use Rattle.k_trace.specs.Named.{DeclaredNames}
 use Rattle.k_trace.specs.Spelling.{after_first, first_line, line_words, operation_lines}
 use Rattle.k_spell.proofs.Ordered.{same_lines}

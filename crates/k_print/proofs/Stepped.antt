@@ -12,7 +12,8 @@ use Rattle.k_types.specs.Trace.{Trace}
 use Rattle.k_frame.proofs.Histories.{legal_front, legal_rest, state_next}
 use Rattle.k_solo.proofs.Rooms.{history_room}
 use Rattle.k_solo.proofs.Unread.{possible_unread, step_unread}
-use Rattle.k_state.specs.Machines.{Machine, setup_of}
+use Rattle.k_state.specs.Machines.{Machine}
+use Rattle.k_state.specs.Setups.{setup_of}
 use Rattle.k_state.specs.Rooms.{HasRoom}
 
 -- what stands for an event past the last

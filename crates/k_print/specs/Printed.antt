@@ -15,7 +15,7 @@ use Rattle.k_trace.specs.Spelling.{text}
 use Rattle.k_reports.specs.Verdicts.{IsAccepted}
 use Rattle.k_text.specs.Report.{report_text}
 use Rattle.k_spell.specs.Spelled.{AreSpelled, is_spelled_event}
-use Rattle.k_state.specs.Machines.{setup_of}
+use Rattle.k_state.specs.Setups.{setup_of}
 use Rattle.k_solo.specs.Runs.{Run}
 use Rattle.k_print.specs.declared.texts.Texts.{Texts}
 use Rattle.k_print.specs.declared.errors.PrintError.{PrintError}

@@ -12,8 +12,8 @@ use crate::text_sink::TextSink;
 use crate::texts::{Texts, are_few};
 use crate::tracing::trace_text;
 use k_io::{NoMemory, Sink, WriteFailed};
+use k_report::report;
 use k_solo::PlainEnd;
-use k_text::report;
 use k_trace::Names;
 use k_types::{Event, Setup};
 use std::alloc::Global;
@@ -74,7 +74,7 @@ impl<'a> Printed<'a> {
         trace_text(alloc, self.setup, self.names, &self.end)
     }
 
-    /// Writes the report of the journal, which is accepted for the trace, as `k_text::report` writes one. It takes no memory.
+    /// Writes the report of the journal, which is accepted for the trace, as `k_report::report` writes one. It takes no memory.
     ///
     /// # Errors
     ///

@@ -1,7 +1,7 @@
 //! The machine on one thread after a journal.
 ghost use Rattle.std.specs.Prelude.{◌≡◌, ◌≤◌, [], IfErr, IfOk, length};
 ghost use Rattle.k_print.specs.Printed.{IsJournal, IsNotPrinted, IsShown, journal_of};
-ghost use Rattle.k_state.specs.Machines.{AreSetupRules};
+ghost use Rattle.k_state.specs.Setups.{AreSetupRules};
 ghost use Rattle.k_trace.specs.Named.{DeclaredNames};
 ghost use Rattle.k_types.specs.Steps.{IsLegalHistory, state_after};
 ghost use Rattle.k_types.specs.Trace.{trace_of};

@@ -3,11 +3,11 @@ use Rattle.std.proofs.Common.{◌≡◌, ℕ, sym, ap, subst, List, []}
 use Rattle.k_types.specs.declared.setup.Setup.{Setup}
 use Rattle.k_types.specs.Trace.{Trace, trace_of}
 use Rattle.k_order.proofs.Laws.{ended_histories_leave_what_the_directory_reaches}
-use Rattle.k_state.specs.Machines.{setup_of}
+use Rattle.k_setup.specs.Setups.{setup_of}
 use Rattle.k_trace.specs.Named.{DeclaredNames, NamedTrace}
-use Rattle.k_outcome.specs.k_process.Over.{OutcomeValue}
-use Rattle.k_outcome.specs.Ends.{EndsRun}
-use Rattle.k_outcome.specs.Listed.{AreRoomsFor, CanEnd}
+use Rattle.k_opening.specs.k_outcome.k_process.Over.{OutcomeValue}
+use Rattle.k_opening.specs.k_outcome.Ends.{EndsRun}
+use Rattle.k_opening.specs.k_outcome.Listed.{AreRoomsFor, CanEnd}
 use Rattle.k_run.specs.Runs.{IsRunOf}
 
 -- a trace of the setup has that setup

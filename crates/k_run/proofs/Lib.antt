@@ -1,11 +1,5 @@
-pub mod Places
-pub mod Gathered
-pub mod Stepped
 pub mod Ended
 pub mod Told
 pub mod Replayed
-pub mod Opened
-pub mod Reported
-pub mod Shows
 pub mod Watched
-pub use Rattle.k_outcome.proofs.Setups
+pub use Rattle.k_opening.proofs.Setups

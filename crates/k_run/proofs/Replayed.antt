@@ -2,14 +2,14 @@
 use Rattle.std.proofs.Common.{◌≡◌, ◌∙◌, ap, List, map, refl}
 use Rattle.k_types.specs.declared.names.Pid.{Pid}
 use Rattle.k_trace.specs.Named.{NamedTrace}
-use Rattle.k_outcome.specs.k_process.Heaps.{HeapsValue, value_of}
-use Rattle.k_outcome.specs.k_process.Over.{cells_of}
-use Rattle.k_complete.specs.Replaying.{CanReplay, HasReplayed}
-use Rattle.k_state.specs.Machines.{setup_of}
-use Rattle.k_outcome.specs.Ends.{EndsRun}
-use Rattle.k_outcome.proofs.OverByMeeting.{met_ends}
-use Rattle.k_still.specs.declared.first.FirstCells.{FirstCells}
-use Rattle.k_still.specs.Opening.{IsOpened, world_of}
+use Rattle.k_opening.specs.k_outcome.k_process.Heaps.{HeapsValue, value_of}
+use Rattle.k_opening.specs.k_outcome.k_process.Over.{cells_of}
+use Rattle.k_worker.specs.Replaying.{CanReplay, HasReplayed}
+use Rattle.k_setup.specs.Setups.{setup_of}
+use Rattle.k_opening.specs.k_outcome.Ends.{EndsRun}
+use Rattle.k_opening.proofs.OverByMeeting.{met_ends}
+use Rattle.k_opening.specs.k_still.declared.first.FirstCells.{FirstCells}
+use Rattle.k_opening.specs.k_still.Opening.{IsOpened, world_of}
 
 pub can_replay : (named : NamedTrace) (first : FirstCells) → IsOpened named first → (order : List Pid) → order ≡ first.order.items → CanReplay (world_of named first) (value_of first.heaps) order
 can_replay named first o order is = record {

@@ -3,9 +3,9 @@ use Rattle.std.proofs.Common.{◌≡◌, ℕ, suc, refl, sym, ap, ap₂, ◌∙�
 use Rattle.k_types.specs.declared.op.Op.{Op}
 use Rattle.k_types.specs.Trace.{Trace, operations_of, trace_of}
 use Rattle.k_trace.specs.Named.{DeclaredNames, NamedTrace}
-use Rattle.k_outcome.specs.k_process.declared.process.Process.{Process}
-use Rattle.k_still.specs.declared.first.FirstCells.{FirstCells}
-use Rattle.k_still.specs.Opening.{IsOpened, world_of}
+use Rattle.k_opening.specs.k_outcome.k_process.declared.process.Process.{Process}
+use Rattle.k_opening.specs.k_still.declared.first.FirstCells.{FirstCells}
+use Rattle.k_opening.specs.k_still.Opening.{IsOpened, world_of}
 use Rattle.k_run.specs.Opened.{named_in, trace_in, world_in}
 
 -- lists of operations that processes have, each at its place

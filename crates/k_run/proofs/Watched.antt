@@ -1,14 +1,16 @@
 -- Samples that are taken one after the other, and the end of a watched run.
-use Rattle.std.proofs.Common.{◌≡◌, ℕ, ◌+◌, ◌≤◌, List, [], ◌∷◌, ◌++◌, length, sym, ap, ◌∙◌, subst, arith}
+use Rattle.std.proofs.Common.{◌≡◌, ℕ, ◌+◌, ◌≤◌, List, [], ◌∷◌, ◌++◌, length, Option, Some, None, refl, sym, ap, ◌∙◌, subst, arith}
 use Rattle.std.proofs.lemmas.List.{length_push}
 use Rattle.atomic_table.specs.Seated.{TableId}
+use Rattle.k_types.specs.declared.event.Event.{Event}
+use Rattle.k_types.specs.Trace.{Trace}
 use Rattle.k_trace.specs.Named.{NamedTrace}
-use Rattle.k_outcome.specs.Ends.{EndValue, journal_of}
-use Rattle.k_watch.specs.declared.sample.Sample.{Sample}
-use Rattle.k_watch.specs.Samples.{AllBelow, IsRising}
-use Rattle.k_watch.specs.Shown.{AllTellOf, HasWatched}
-use Rattle.k_watch.specs.Values.{WatcherValue}
-use Rattle.k_watch.proofs.SampleLists.{rising_one_more}
+use Rattle.k_opening.specs.k_outcome.Ends.{EndValue, journal_of}
+use Rattle.k_opening.specs.k_locks.k_watch.declared.sample.Sample.{Sample}
+use Rattle.k_opening.specs.k_locks.k_watch.Samples.{AllBelow, IsRising}
+use Rattle.k_opening.specs.k_locks.k_watch.Shown.{AllTellOf, HasWatched, WasShown}
+use Rattle.k_opening.specs.k_locks.k_watch.Values.{PenValue, WatcherValue}
+use Rattle.k_opening.proofs.SampleLists.{rising_one_more}
 use Rattle.k_run.specs.Runs.{IsRunOf}
 use Rattle.k_run.specs.Watched.{HasTaken, IsWatchedRunOf}
 
@@ -34,3 +36,8 @@ watched_run named count capacity cell end old new samples all last run h w pushe
   rising = subst IsRising (sym pushed) (rising_one_more samples last h.rising (subst (AllBelow last.events) (sym h.same) w.rises));
   last = (samples, pushed ∙ ap (λ (s : Sample). samples ++ s ∷ []) w.last_is);
 }
+
+-- where there is a cell there is a pen
+pub has_pen : (cell : TableId) (trace : Trace) (history : List Event) (pen : Option PenValue) → WasShown (Some cell) trace history pen → ((p : PenValue) → pen ≡ Some p → ⊥) → ⊥
+has_pen cell trace history None shown none = shown
+has_pen cell trace history (Some p) shown none = none p refl

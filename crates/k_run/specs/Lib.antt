@@ -1,12 +1,9 @@
-pub mod Running
-pub mod Places
-pub mod Gathering
-pub mod Rooms
-pub mod Worlds
 pub mod Runs
 pub mod Watched
 pub mod Opened
-pub mod Stills
-pub use Rattle.k_still.specs.Opening
-pub use Rattle.k_outcome.specs as k_outcome
-pub use Rattle.k_watch.specs as k_watch
+pub use Rattle.k_opening.specs as k_opening
+pub use Rattle.k_opening.specs.Stills
+pub use Rattle.k_opening.specs.Worlds
+pub use Rattle.k_opening.specs.k_still.Opening
+pub use Rattle.k_opening.specs.k_outcome
+pub use Rattle.k_opening.specs.k_locks.k_watch

@@ -3,9 +3,9 @@ use Rattle.std.specs.Prelude.{map}
 use Rattle.k_types.specs.declared.names.Pid.{Pid}
 use Rattle.k_types.specs.Trace.{Trace, trace_of}
 use Rattle.k_trace.specs.Named.{NamedTrace}
-use Rattle.k_outcome.specs.k_process.declared.process.Process.{Process}
-use Rattle.k_outcome.specs.k_process.Worlds.{WorldValue}
-use Rattle.k_still.specs.declared.first.FirstCells.{FirstCells}
+use Rattle.k_opening.specs.k_outcome.k_process.declared.process.Process.{Process}
+use Rattle.k_opening.specs.k_outcome.k_process.Worlds.{WorldValue}
+use Rattle.k_opening.specs.k_still.declared.first.FirstCells.{FirstCells}
 
 -- the trace of the cells' setup, of the operations of their processes and of their order
 abbrev pub trace_in : FirstCells → Trace

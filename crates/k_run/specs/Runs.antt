@@ -4,9 +4,9 @@ use Rattle.k_types.specs.Complete.{IsComplete, all_ended}
 use Rattle.k_types.specs.Sound.{IsSound}
 use Rattle.k_types.specs.Steps.{IsLegalHistory, state_after}
 use Rattle.k_order.specs.Reclaimed.{IsReclaimed}
-use Rattle.k_state.specs.Machines.{setup_of}
+use Rattle.k_setup.specs.Setups.{setup_of}
 use Rattle.k_trace.specs.Named.{NamedTrace}
-use Rattle.k_outcome.specs.Ends.{EndValue, journal_of}
+use Rattle.k_opening.specs.k_outcome.Ends.{EndValue, journal_of}
 
 -- the names and the setup are those of the trace, the journal is a legal and complete history of it, the state after the journal is sound, and
 -- where every process has ended, all is reclaimed

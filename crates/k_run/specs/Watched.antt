@@ -2,12 +2,12 @@
 use Rattle.std.specs.Prelude.{◌≡◌, ℕ, ◌+◌, ◌≤◌, List, length}
 use Rattle.atomic_table.specs.Seated.{TableId}
 use Rattle.k_trace.specs.Named.{NamedTrace}
-use Rattle.k_outcome.specs.Ends.{EndValue, journal_of}
-use Rattle.k_watch.specs.declared.sample.Sample.{Sample}
-use Rattle.k_watch.specs.Numbers.{numbers_after}
-use Rattle.k_watch.specs.Samples.{IsLast, IsRising}
-use Rattle.k_watch.specs.Shown.{AllTellOf}
-use Rattle.k_watch.specs.Values.{WatcherValue}
+use Rattle.k_opening.specs.k_outcome.Ends.{EndValue, journal_of}
+use Rattle.k_opening.specs.k_locks.k_watch.declared.sample.Sample.{Sample}
+use Rattle.k_opening.specs.k_locks.k_watch.Numbers.{numbers_after}
+use Rattle.k_opening.specs.k_locks.k_watch.Samples.{IsLast, IsRising}
+use Rattle.k_opening.specs.k_locks.k_watch.Shown.{AllTellOf}
+use Rattle.k_opening.specs.k_locks.k_watch.Values.{WatcherValue}
 use Rattle.k_run.specs.Runs.{IsRunOf}
 
 -- the watcher is of the cell and has taken so many samples, which the list has too, in which the numbers of events never fall; and there is

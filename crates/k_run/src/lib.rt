@@ -6,34 +6,18 @@
 //! by the run's trace and by the table of its journal ([`WorldName`]).
 #![tactic(auto)]
 
-mod collecting;
-mod locked;
-mod locks;
-mod opening;
-mod ordering;
-mod placing;
 mod replaying;
-mod reporting;
-mod rooms;
 mod running;
-mod stepping;
-mod still;
-mod stretching;
-mod turning;
-mod turns;
 mod watching;
 mod whole;
 mod world;
-mod worlds;
 
-pub use k_outcome::{Outcome, Process};
-pub use k_watch::Sample;
-pub use locked::{LockedBook, LockedKernel, LockedProcess, LockedShared};
-pub use opening::{open, open_watched};
+pub use k_opening::{
+    LockedBook, LockedKernel, LockedProcess, LockedShared, Outcome, Process, Sample, Still, World,
+    WorldName, open, open_still, open_watched,
+};
 pub use replaying::replay;
 pub use running::run;
-pub use still::{Still, open_still};
 pub use watching::watch_trace;
 pub use whole::{replay_trace, run_trace};
-pub use world::{World, finish, finish_watched};
-pub use worlds::WorldName;
+pub use world::{finish, finish_watched};

@@ -1,14 +1,12 @@
 //! The operations of a trace, done in the order of the file on the caller's thread.
 ghost use Rattle.std.specs.Prelude.{◌≡◌};
-ghost use Rattle.k_outcome.specs.Ends.{journal_of};
+ghost use Rattle.k_opening.specs.k_outcome.Ends.{journal_of};
 ghost use Rattle.k_run.specs.Runs.{IsRunOf};
-ghost use Rattle.k_run.specs.Stills.{IsOpenedStill};
+ghost use Rattle.k_opening.specs.Stills.{IsOpenedStill};
 ghost use Rattle.k_trace.specs.Named.{NamedTrace};
 ghost use Rattle.k_types.specs.FileOrder.{file_order};
 
-use crate::still::Still;
-use k_outcome::{Outcome, outcome_of};
-use k_still::FirstCells;
+use k_opening::{FirstCells, Outcome, Still, outcome_of};
 
 /// Does the operations of the trace in the order of the file, each with all its events, then what comes last where every process has
 /// ended, and shows the end. There are no locks, and it takes no memory.
@@ -25,6 +23,6 @@ pub fn replay(still: Still) -> Outcome
         order,
         mut heaps,
     } = cells;
-    k_complete::replay(&mut heaps, &order);
+    k_worker::replay(&mut heaps, &order);
     outcome_of(names, setup, heaps, rooms)
 }

@@ -1,16 +1,12 @@
 //! Workers on threads, which draw processes and do their operations.
-ghost use Rattle.k_run.specs.Worlds.{AreFree, IsFree};
+ghost use Rattle.k_opening.specs.Worlds.{AreFree, IsFree};
 ghost use Rattle.std.specs.Prelude.{◌≡◌};
 
-use crate::locks::Locks;
-use crate::ordering::HoldsNone;
-use crate::stepping::told;
-use crate::turning::{done_behind, turn_behind};
-use crate::world::World;
-use crate::worlds::WorldName;
 use k_io::{Gate, GatePlace};
+use k_opening::{Locks, MOST_WORKERS, World, WorldName};
 use k_turns::{TurnPass, Turns};
 use k_types::Pid;
+use k_worker::{HoldsNone, done_behind, told, turn_behind};
 use std::marker::Model;
 use std::sync::Wait;
 use std::thread;
@@ -21,9 +17,6 @@ const STEPS_A_TURN: u32 = 64;
 
 /// So many operations of a process end a turn. The last stretch of them may go beyond.
 const OPERATIONS_A_TURN: u64 = 1_024;
-
-/// The most workers of a run.
-pub(crate) const MOST_WORKERS: u32 = 4;
 
 /// What workers share. Contracts see the queue.
 #[derive(Drop)]

@@ -1,26 +1,23 @@
 //! A trace that is run on threads beside a watcher, which takes samples of the run and never the book.
 ghost use Rattle.std.specs.Prelude.{◌≡◌, ◌+◌, ◌<◌, ◌^◌, [], ◌∷◌, IfOk, Some, length, vec_capacity};
-ghost use Rattle.k_outcome.specs.Listed.{AreRoomsFor};
-ghost use Rattle.k_run.specs.Rooms.{HasRoom};
+ghost use Rattle.k_opening.specs.k_outcome.Listed.{AreRoomsFor};
+ghost use Rattle.k_opening.specs.k_locks.Rooms.{HasRoom};
 ghost use Rattle.k_run.specs.Watched.{HasTaken, IsWatchedRunOf};
-ghost use Rattle.k_outcome.specs.k_process.Heaps.{value_of};
-ghost use Rattle.k_outcome.specs.k_process.Standing.{AllStand};
-ghost use Rattle.k_still.specs.Opening.{IsSetupOf};
+ghost use Rattle.k_opening.specs.k_outcome.k_process.Heaps.{value_of};
+ghost use Rattle.k_opening.specs.k_outcome.k_process.Standing.{AllStand};
+ghost use Rattle.k_opening.specs.k_still.Opening.{IsSetupOf};
 ghost use Rattle.k_trace.specs.Meaning.{meaning_of};
 ghost use Rattle.k_trace.specs.Rules.{IsTrace};
-ghost use Rattle.k_watch.specs.Numbers.{numbers_of};
+ghost use Rattle.k_opening.specs.k_locks.k_watch.Numbers.{numbers_of};
 
-use crate::opening::open_watched;
-use crate::rooms::empty_list;
 use crate::running::run;
-use crate::still::{Still, open_still};
-use crate::world::{World, finish_watched};
-use crate::worlds::WorldName;
-use k_book::Book;
+use crate::world::finish_watched;
 use k_io::{Gate, GatePlace, NoMemory};
-use k_outcome::Outcome;
+use k_opening::{
+    Book, Outcome, Sample, Still, WatchPen, Watcher, World, WorldName, empty_list, make,
+    open_still, open_watched,
+};
 use k_trace::Trace;
-use k_watch::{Sample, WatchPen, Watcher, make};
 use std::alloc::Global;
 use std::marker::Brand;
 use std::sync::Wait;

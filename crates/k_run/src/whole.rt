@@ -1,23 +1,20 @@
 //! A trace that is run or replayed, from its opening to its end.
 ghost use Rattle.std.specs.Prelude.{IfOk, None, ◌≡◌};
-ghost use Rattle.k_outcome.specs.Ends.{journal_of};
-ghost use Rattle.k_outcome.specs.Listed.{AreRoomsFor};
+ghost use Rattle.k_opening.specs.k_outcome.Ends.{journal_of};
+ghost use Rattle.k_opening.specs.k_outcome.Listed.{AreRoomsFor};
 ghost use Rattle.k_run.specs.Runs.{IsRunOf};
-ghost use Rattle.k_outcome.specs.k_process.Heaps.{value_of};
-ghost use Rattle.k_outcome.specs.k_process.Standing.{AllStand};
-ghost use Rattle.k_still.specs.Opening.{IsSetupOf};
+ghost use Rattle.k_opening.specs.k_outcome.k_process.Heaps.{value_of};
+ghost use Rattle.k_opening.specs.k_outcome.k_process.Standing.{AllStand};
+ghost use Rattle.k_opening.specs.k_still.Opening.{IsSetupOf};
 ghost use Rattle.k_trace.specs.Meaning.{meaning_of};
 ghost use Rattle.k_trace.specs.Rules.{IsTrace};
 ghost use Rattle.k_types.specs.FileOrder.{file_order};
 
-use crate::opening::open;
 use crate::replaying::replay;
 use crate::running::run;
-use crate::still::{Still, open_still};
-use crate::world::{World, finish};
-use crate::worlds::WorldName;
+use crate::world::finish;
 use k_io::{Gate, NoMemory};
-use k_outcome::Outcome;
+use k_opening::{Outcome, Still, World, WorldName, open, open_still};
 use k_trace::Trace;
 use std::alloc::Global;
 use std::marker::Brand;

@@ -1,51 +1,20 @@
-//! A run whose heaps and book stand behind locks, and its end.
+//! The end of a run.
 ghost use Rattle.std.specs.Prelude.{Some, length, ◌≡◌};
-ghost use Rattle.k_outcome.specs.k_process.Heaps.{value_of};
-ghost use Rattle.k_outcome.specs.k_process.Over.{IsOutcome, cells_of};
-ghost use Rattle.k_outcome.specs.Ends.{EndsRun, journal_of};
-ghost use Rattle.k_run.specs.Rooms.{AreEndRooms};
+ghost use Rattle.k_opening.specs.k_outcome.k_process.Heaps.{value_of};
+ghost use Rattle.k_opening.specs.k_outcome.k_process.Over.{IsOutcome, cells_of};
+ghost use Rattle.k_opening.specs.k_outcome.Ends.{EndsRun, journal_of};
+ghost use Rattle.k_opening.specs.k_locks.Rooms.{AreEndRooms};
 ghost use Rattle.k_run.specs.Runs.{IsRunOf};
-ghost use Rattle.k_state.specs.Machines.{setup_of};
+ghost use Rattle.k_setup.specs.Setups.{setup_of};
 ghost use Rattle.k_types.specs.Trace.{process_count};
-ghost use Rattle.k_watch.specs.Shown.{HasWatched, WasShown};
+ghost use Rattle.k_opening.specs.k_locks.k_watch.Shown.{HasWatched, WasShown};
 
-use crate::locks::{Locks, unlock_all};
-use crate::rooms::EndRooms;
-use crate::worlds::WorldName;
-use k_complete::end_all;
-use k_outcome::{Heaps, Outcome, ReportRooms, outcome_of};
-use k_trace::Names;
-use k_turns::{TurnPass, Turns};
-use k_types::Setup;
-use k_watch::{Sample, WatchPen, Watcher, show_end};
-use std::marker::Model;
+use k_opening::{
+    EndRooms, Heaps, Locks, Outcome, Sample, WatchPen, Watcher, World, WorldName, outcome_of,
+    show_end, unlock_all,
+};
+use k_worker::end_all;
 use std::sync::Wait;
-
-/// A run named `W`: its locks, the queue of its processes with a pass for each worker, and the memory with which it is ended and what a
-/// report lists of the end. Contracts see the names that its trace declares, and its setup.
-#[derive(Drop)]
-pub struct World<W: WorldName> {
-    pub(crate) locks: Locks<W>,
-    pub(crate) turns: Turns,
-    pub(crate) passes: Vec<TurnPass>,
-    pub(crate) rooms: EndRooms,
-    pub(crate) report: ReportRooms,
-    pub(crate) names: Names,
-    pub(crate) setup: Setup,
-}
-
-impl<W: WorldName> Model for World<W> {
-    ghost use Rattle.k_run.specs.Worlds.{RunValue};
-
-    ghost Value = { RunValue };
-
-    ghost use Rattle.std.specs.Prelude.{length};
-    ghost use Rattle.k_run.specs.Worlds.{HoldsRun};
-
-    ghost view = { λ w. record { names = w.names; setup = w.setup } };
-
-    ghost invariant = { λ w. HoldsRun W.world (length w.locks.processes.items) (length w.locks.shared.items) w.rooms w.report w.turns w.passes.items w.setup };
-}
 
 /// Ends the run of the heaps behind the locks: what is left of each process is done, one process after the other, and each cell meets the
 /// journal. The pen that stood beside the book is given back.

@@ -2,14 +2,14 @@
 use Rattle.std.proofs.Common.{Result, sym, subst}
 use Rattle.std.specs.Prelude.{IfOk}
 use Rattle.k_types.specs.Trace.{Trace}
-use Rattle.k_process.specs.Worlds.{WorldValue}
-use Rattle.k_process.specs.Heaps.{value_of}
-use Rattle.k_process.specs.Standing.{AllStand}
+use Rattle.k_run.specs.k_outcome.k_process.Worlds.{WorldValue}
+use Rattle.k_run.specs.k_outcome.k_process.Heaps.{value_of}
+use Rattle.k_run.specs.k_outcome.k_process.Standing.{AllStand}
 use Rattle.k_run.specs.Opening.{IsSetupOf}
 use Rattle.k_run.specs.k_outcome.Ends.{EndValue}
 use Rattle.k_run.specs.k_outcome.Listed.{AreRoomsFor}
 use Rattle.k_trace.specs.Named.{NamedTrace}
-use Rattle.k_run.specs.declared.still.Still.{Still}
+use Rattle.k_run.specs.k_opening.declared.still.Still.{Still}
 use Rattle.k_run.specs.Opened.{named_in, trace_in, world_in}
 use Rattle.k_run.specs.Runs.{IsRunOf}
 use Rattle.k_run.specs.Stills.{IsOpenedStill}

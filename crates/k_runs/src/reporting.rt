@@ -6,9 +6,10 @@ ghost use Rattle.k_trace.specs.Rules.{IsTrace};
 
 use k_check::{Verdict, check_report};
 use k_io::{Gate, MemSink};
+use k_reader::read_trace;
+use k_report::report;
 use k_run::{Outcome, replay_trace, run_trace};
-use k_text::report;
-use k_trace::{Trace, read_trace};
+use k_trace::Trace;
 use std::alloc::Global;
 use std::sync::Wait;
 use std::test::Fail;

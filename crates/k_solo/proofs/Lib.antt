@@ -1,7 +1,5 @@
-pub mod Unread
 pub mod Rooms
 pub mod NextObjects
-pub mod Known
-pub mod Sorted
-pub mod Arranged
-pub mod Lines
+pub use Rattle.k_setup.proofs.Lines
+pub use Rattle.k_setup.proofs.Unread
+pub use Rattle.k_shown.proofs.Known

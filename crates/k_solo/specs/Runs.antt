@@ -1,18 +1,17 @@
 -- A machine with the events that led to its state.
-use Rattle.std.specs.Prelude.{◌≡◌, ℕ, ◌-◌, ◌<◌, ◌==◌, ◌^◌, nat_le, List, [], length, slice_index_or, if◌then◌else◌}
+use Rattle.std.specs.Prelude.{◌≡◌, ℕ, ◌<◌, ◌^◌, List, [], length, slice_index_or}
 use Rattle.std.specs.List.{AllByRecursion}
 use Rattle.k_types.specs.declared.event.Event.{Event}
-use Rattle.k_types.specs.declared.names.Heap.{Heap}
-use Rattle.k_types.specs.declared.names.Heap.TheVariants.{Kernel}
 use Rattle.k_types.specs.declared.names.Name.{Name}
-use Rattle.k_types.specs.Owners.{user, shared}
-use Rattle.k_types.specs.Trace.{Trace, process_count, segment_count}
+use Rattle.k_types.specs.Trace.{Trace, segment_count}
 use Rattle.k_types.specs.Steps.{IsLegalHistory, state_after}
 use Rattle.k_types.specs.Complete.{IsComplete}
 use Rattle.k_types.specs.FileOrder.{file_order}
 use Rattle.k_types.specs.Known.{IsKnownEvent}
 use Rattle.k_text.specs.Shown.{exits_of}
-use Rattle.k_state.specs.Machines.{Machine, setup_of}
+use Rattle.k_setup.specs.Setups.{setup_of}
+use Rattle.k_shown.specs.Heaps.{heap_at}
+use Rattle.k_state.specs.Machines.{Machine}
 use Rattle.k_plain.specs.Sounds.{IsSoundMachine}
 
 -- a machine and events
@@ -25,13 +24,6 @@ pub record IsShown (run : Run) : Type 0 where
   pub machine : IsSoundMachine run.machine
   pub known : AllByRecursion (IsKnownEvent run.machine.setup) run.events
   pub few : length run.events < 2 ^ 32
-
--- the heap that begins with the segment
-abbrev pub heap_at : Trace → ℕ → Heap
-heap_at trace seg =
-    if seg == 0 then Kernel
-    else if nat_le seg (process_count trace) then user (seg - 1)
-    else shared (seg - 1 - process_count trace)
 
 -- the targets of the exit items of each heap in order, by the segments with which the heaps begin
 pub record AreTargets (machine : Machine) (targets : List (List Name)) : Type 0 where

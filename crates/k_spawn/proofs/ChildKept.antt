@@ -12,16 +12,15 @@ use Rattle.k_trace.specs.Names.{declares, is_name, number_of}
 use Rattle.k_trace.specs.Named.{NamedTrace}
 use Rattle.k_trace.specs.Rules.{AreNames}
 use Rattle.k_trace.specs.declared.place.Place.TheVariants.{Procs}
-use Rattle.k_trace.proofs.Again.{nor}
-use Rattle.k_trace.proofs.Found.{not_true}
-use Rattle.k_trace.proofs.Kept.{IsSaid}
-use Rattle.k_trace.proofs.OpForms.{number_below}
-use Rattle.k_trace.proofs.Pushed.{AreNames_front, AreNames_push}
+use Rattle.k_reader.proofs.Again.{nor}
+use Rattle.k_reader.proofs.Found.{not_true}
+use Rattle.k_reader.proofs.Kept.{IsSaid}
+use Rattle.k_trace.proofs.Pushed.{AreNames_front, AreNames_push, number_below}
 use Rattle.k_spawn.specs.Judgement.{SoFar, child_line, is_child_word, with_child}
 use Rattle.k_spawn.specs.Scripts.{Script, limit_names, process_names}
 use Rattle.k_spawn.proofs.HeaderKept.{demands_ok}
 use Rattle.k_spawn.proofs.KeptSoFar.{AreChildren, IsPeopled, Keeps}
-use Rattle.k_trace.proofs.Readers.{ok_is}
+use Rattle.k_reader.proofs.Readers.{ok_is}
 
 -- there are as many names as processes
 pub names_counted : (s : Script) (wss : List (List Text)) → IsSaid s.header wss → AreChildren s.header s.child_names s.parents → length (process_names s) ≡ process_count s.header.trace + length s.parents

@@ -12,11 +12,11 @@ use Rattle.k_base.proofs.Lists.{length_push, numbers_length, numbers_push, at_nu
 use Rattle.k_base.proofs.Sums.{bit}
 use Rattle.k_limits.proofs.Charges.{use_charged, use_deep}
 use Rattle.k_limits.proofs.Reserves.{reservation, row_before, tree_before, use_before, use_last}
-use Rattle.k_trace.proofs.Keeps.{each_row, tree_push}
-use Rattle.k_trace.proofs.Kept.{AreRows}
-use Rattle.k_trace.proofs.Reserved.{AllFit}
-use Rattle.k_trace.proofs.Runs.{AreLater}
-use Rattle.k_trace.proofs.Steps.{limit_row}
+use Rattle.k_reader.proofs.Keeps.{each_row, tree_push}
+use Rattle.k_reader.proofs.Kept.{AreRows}
+use Rattle.k_reader.proofs.Reserved.{AllFit}
+use Rattle.k_reader.proofs.Runs.{AreLater}
+use Rattle.k_reader.proofs.Steps.{limit_row}
 use Rattle.k_spawn.specs.Families.{IsFamily, children, is_child, parent_of, place_of}
 use Rattle.k_spawn.specs.Scripts.{Script, family, limit_for}
 use Rattle.k_spawn.specs.Translation.{child_row, limit_id, translation}

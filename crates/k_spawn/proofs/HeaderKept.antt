@@ -12,13 +12,13 @@ use Rattle.k_trace.specs.declared.place.Place.TheVariants.{Version, Kernel, Type
 use Rattle.k_trace.specs.declared.reasons.Reason.TheVariants.{NoForm, NoName, NameTaken}
 use Rattle.k_trace.specs.Grown.{with_shared}
 use Rattle.k_trace.specs.Judgement.{SoFar as TraceSoFar, Judged as TraceJudged, has_process, later_line as trace_later_line, line_in as trace_line, line_of_procs as trace_line_of_procs, operation_line as trace_operation_line, proc_line, shared_line}
-use Rattle.k_trace.proofs.Found.{not_true, step_found}
-use Rattle.k_trace.proofs.Keeps.{step_keeps}
-use Rattle.k_trace.proofs.Kept.{Holds, IsSaid}
+use Rattle.k_reader.proofs.Found.{not_true, step_found}
+use Rattle.k_reader.proofs.Keeps.{step_keeps}
+use Rattle.k_reader.proofs.Kept.{Holds, IsSaid}
 use Rattle.k_trace.proofs.Pushed.{AreNames_push, neither_declares}
-use Rattle.k_trace.proofs.Readers.{demands_ok as asks_ok, ok_is}
-use Rattle.k_trace.proofs.Sound.{named_in}
-use Rattle.k_trace.proofs.Steps.{at_place, Step, OfVersion, OfKernel, OfType, OfRoot, OfLimit, OfProc, OfShared, OfOperation}
+use Rattle.k_reader.proofs.Readers.{demands_ok as asks_ok, ok_is}
+use Rattle.k_reader.proofs.Sound.{named_in}
+use Rattle.k_reader.proofs.Steps.{at_place, Step, OfVersion, OfKernel, OfType, OfRoot, OfLimit, OfProc, OfShared, OfOperation}
 use Rattle.k_spawn.specs.declared.reasons.ScriptReason.{ScriptReason}
 use Rattle.k_spawn.specs.declared.reasons.ScriptReason.TheVariants.{OfTrace}
 use Rattle.k_spawn.specs.Judgement.{SoFar, has_no_child, header_line, in_header, is_child_word}

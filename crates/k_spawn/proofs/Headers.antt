@@ -8,9 +8,9 @@ use Rattle.k_trace.specs.Named.{NamedTrace}
 use Rattle.k_trace.specs.declared.place.Place.{Place}
 use Rattle.k_trace.specs.declared.place.Place.TheVariants.{Version, Kernel, Types, Limits, Operations}
 use Rattle.k_trace.specs.Judgement.{SoFar, has_process, line_in}
-use Rattle.k_trace.proofs.OpForms.{AreNamed}
-use Rattle.k_trace.proofs.Found.{step_found}
-use Rattle.k_trace.proofs.Steps.{Step, OfVersion, OfKernel, OfType, OfRoot, OfLimit, OfProc, OfShared, OfOperation}
+use Rattle.k_reader.proofs.OpForms.{AreNamed}
+use Rattle.k_reader.proofs.Found.{step_found}
+use Rattle.k_reader.proofs.Steps.{Step, OfVersion, OfKernel, OfType, OfRoot, OfLimit, OfProc, OfShared, OfOperation}
 use Rattle.k_spawn.specs.Outcome.{ReaderState, IsNamed, IsReader, IsHeaderPlace, IsOfHeader, place_now, so_far}
 use Rattle.k_spawn.specs.Scripts.{Script}
 use Rattle.k_base.proofs.Lists.{length_push}

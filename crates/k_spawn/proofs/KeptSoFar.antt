@@ -10,7 +10,7 @@ use Rattle.k_trace.specs.Named.{NamedTrace}
 use Rattle.k_trace.specs.Rules.{AreNames}
 use Rattle.k_trace.specs.declared.place.Place.{Place}
 use Rattle.k_trace.specs.declared.place.Place.TheVariants.{Version, Kernel, Types, Limits, Procs, Shared, Operations}
-use Rattle.k_trace.proofs.Kept.{Holds}
+use Rattle.k_reader.proofs.Kept.{Holds}
 use Rattle.k_spawn.specs.declared.script.Deed.{Deed}
 use Rattle.k_spawn.specs.declared.script.Deed.TheVariants.{Does, Spawns, Reaps}
 use Rattle.k_spawn.specs.declared.script.ScriptLine.{ScriptLine}

@@ -15,7 +15,7 @@ use Rattle.k_types.specs.TraceRules.{AreOperations, EndsWithExit, is_exit, is_of
 use Rattle.k_base.proofs.Lists.{numbers_length, at_number}
 use Rattle.k_base.proofs.Sums.{bit, count_is_total, total_append}
 use Rattle.k_trace.specs.Grown.{has_exit}
-use Rattle.k_trace.proofs.OpLists.{ends_nil, ends_push, times, times_head, none_ends}
+use Rattle.k_reader.proofs.OpLists.{ends_nil, ends_push, times, times_head, none_ends}
 use Rattle.k_spawn.specs.declared.script.Deed.{Deed}
 use Rattle.k_spawn.specs.declared.script.Deed.TheVariants.{Does, Spawns, Reaps}
 use Rattle.k_spawn.specs.declared.script.ScriptLine.{ScriptLine}

@@ -14,12 +14,13 @@ use Rattle.k_trace.specs.declared.place.Place.{Place}
 use Rattle.k_trace.specs.declared.place.Place.TheVariants.{Version, Kernel, Types, Limits, Procs, Shared, Operations}
 use Rattle.k_trace.specs.declared.reasons.Reason.{Reason}
 use Rattle.k_trace.specs.declared.reasons.Reason.TheVariants.{NoForm}
-use Rattle.k_trace.proofs.Found.{not_true}
-use Rattle.k_trace.proofs.OpAgain.{has_own_operation}
-use Rattle.k_trace.proofs.OpForms.{AreNamed, number_below, op_found}
-use Rattle.k_trace.proofs.Readers.{demands_ok as asks_ok, ok_is}
-use Rattle.k_trace.proofs.Sound.{named_in}
-use Rattle.k_trace.proofs.Steps.{version_words}
+use Rattle.k_trace.proofs.Pushed.{number_below}
+use Rattle.k_reader.proofs.Found.{not_true}
+use Rattle.k_reader.proofs.OpAgain.{has_own_operation}
+use Rattle.k_reader.proofs.OpForms.{AreNamed, op_found}
+use Rattle.k_reader.proofs.Readers.{demands_ok as asks_ok, ok_is}
+use Rattle.k_reader.proofs.Sound.{named_in}
+use Rattle.k_reader.proofs.Steps.{version_words}
 use Rattle.k_spawn.specs.declared.reasons.ScriptReason.TheVariants.{OfTrace}
 use Rattle.k_spawn.specs.declared.script.Deed.{Deed}
 use Rattle.k_spawn.specs.declared.script.Deed.TheVariants.{Does, Spawns, Reaps}

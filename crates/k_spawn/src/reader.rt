@@ -15,7 +15,8 @@ use crate::course::{Course, weight_of};
 use crate::errors::ScriptLineError;
 use crate::reasons::ScriptReason;
 use crate::script::{Deed, Script};
-use k_trace::{LineError, Place, Reader, Reason, read_op};
+use k_reader::{Reader, read_op};
+use k_trace::{LineError, Place, Reason};
 use k_types::{
     MAXIMUM_BELOW, MOST_LIMITS, MOST_LINE_BYTES, MOST_OPERATIONS, MOST_PROCESSES, NoMemory, Pid,
 };

@@ -10,7 +10,8 @@ ghost use Rattle.k_spawn.specs.Translated.{IsLineOf, idle, with_lines, with_oper
 ghost use Rattle.k_spawn.specs.Translation.{child_row, ending, limit_id, operations_of_deed, translation};
 
 use crate::script::{Deed, Script, ScriptLine};
-use k_trace::{Names, Operations, SECOND_VERSION, Trace};
+use k_reader::{Operations, SECOND_VERSION};
+use k_trace::{Names, Trace};
 use k_types::{LimitId, LimitRow, NoMemory, Op, Pid, Setup, SharedId, TypeId, push};
 use std::alloc::Global;
 

@@ -12,7 +12,7 @@ use Rattle.k_types.specs.TraceRules.{IsTree}
 use Rattle.k_base.proofs.Lists.{if_some}
 use Rattle.k_words.specs.Words.{Text, line_text, text_of}
 use Rattle.k_words.specs.Spaced.{spaced}
-use Rattle.k_text.proofs.LineLemmas.{joined, text_of-append}
+use Rattle.k_report.proofs.LineLemmas.{joined, text_of-append}
 use Rattle.k_trace.specs.Named.{NamedTrace}
 use Rattle.k_trace.specs.Spelling.{declarations, limit_words, operation_lines, proc_words, shared_words, text, type_words}
 

@@ -13,13 +13,13 @@ use Rattle.k_trace.specs.Named.{DeclaredNames, NamedTrace}
 use Rattle.k_trace.specs.declared.trace.Trace.{Trace}
 use Rattle.k_trace.specs.Meaning.{meaning_of}
 use Rattle.k_base.proofs.Lists.{get_or-set_cases}
-use Rattle.k_text.proofs.LineLemmas.{text_of-append}
+use Rattle.k_report.proofs.LineLemmas.{text_of-append}
 use Rattle.k_trace.specs.NamedOps.{IsNamedOp}
 use Rattle.k_trace.specs.Rules.{IsTrace}
 use Rattle.k_trace.specs.Spelling.{after_first, first_line, operation_lines}
 use Rattle.k_spell.proofs.Added.{mapped_next}
 use Rattle.k_text.specs.Named.{AreNamed}
-use Rattle.k_text.proofs.Known.{named_op}
+use Rattle.k_report.proofs.Known.{named_op}
 use Rattle.k_frame.proofs.Sizes.{zeros_at}
 
 -- The operations of each process behind those that it has done.

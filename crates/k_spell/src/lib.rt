@@ -3,7 +3,7 @@
 //! [`trace_text`] spells a trace as the definition of a trace's text says, and such a text, where it is short enough to be read,
 //! is judged to be that trace. The lines of its parts are lent, for a trace whose operations stand elsewhere, and [`is_spelled`] tells
 //! which operations a line can have. Below stand `k_trace`, with traces and what spells them, `k_words`, with lines that are being made,
-//! and `k_text` for lemmas on lines.
+//! and `k_report` for lemmas on lines.
 #![tactic(auto)]
 
 mod declared;

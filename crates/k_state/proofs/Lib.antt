@@ -13,9 +13,9 @@ pub mod Placed
 pub mod Pools
 pub mod RoomLaws
 pub mod Rows
-pub mod Shapes
 pub mod Split
 pub mod Sums
 pub mod Totals
 pub mod Uses
 pub mod Views
+pub use Rattle.k_setup.proofs.Shapes

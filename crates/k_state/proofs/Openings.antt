@@ -16,7 +16,8 @@ use Rattle.k_types.specs.State.{Content, ExitItem, Object, Refers, Sharing, Stat
 use Rattle.k_types.specs.Sound.{AreNumbered}
 use Rattle.k_frame.proofs.Sizes.{opening_sized}
 use Rattle.k_types.specs.Trace.{Trace}
-use Rattle.k_state.specs.Machines.{AreSetupRules, IsPlain}
+use Rattle.k_state.specs.Machines.{IsPlain}
+use Rattle.k_setup.specs.Setups.{AreSetupRules}
 
 unmade_known : (setup : Trace) (n : ℕ) → AllByRecursion (IsKnownPhase setup) (replicate n Unmade)
 unmade_known setup zero = tt

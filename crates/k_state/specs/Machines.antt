@@ -1,34 +1,19 @@
 -- The machine with the setup of its trace, and the shape of its lists.
-use Rattle.std.specs.Prelude.{◌≡◌, ℕ, ◌<◌, ◌≤◌, ◌==◌, ◌^◌, List, [], filter, length, slice_index_or, IfSome}
+use Rattle.std.specs.Prelude.{◌≡◌, ℕ, ◌<◌, ◌≤◌, ◌==◌, ◌^◌, List, filter, length, slice_index_or, IfSome}
 use Rattle.k_types.specs.Totals.{total}
-use Rattle.k_types.specs.Trace.{Trace, process_count, segment_count}
-use Rattle.k_types.specs.Types.{HaveFewFields}
-use Rattle.k_types.specs.TraceRules.{AreLimits}
+use Rattle.k_types.specs.Trace.{Trace, segment_count}
 use Rattle.k_types.specs.Bounds.{maximum_below, most_fields}
 use Rattle.std.specs.List.{AllByRecursion}
 use Rattle.k_types.specs.Owners.{object_bytes}
 use Rattle.k_types.specs.State.{Object, State}
 use Rattle.k_types.specs.Sound.{AreNames, IsSized}
 use Rattle.k_types.specs.Known.{IsKnownPhase}
+use Rattle.k_setup.specs.Setups.{AreSetupRules}
 
 -- What a trace says before its operations, and a state.
 pub record Machine : Type 0 where
   pub setup : Trace
   pub state : State
-
--- The trace of the same setup that has no operations.
-abbrev pub setup_of : Trace → Trace
-setup_of trace = record trace { operations = []; order = [] }
-
--- The rules of traces that speak of the setup alone.
-pub record AreSetupRules (setup : Trace) : Type 0 where
-  pub directory : setup.dir_fields ≤ 16
-  pub fields : HaveFewFields setup.types
-  pub limit_count : length setup.limits ≤ 128
-  pub processes : process_count setup ≤ 64
-  pub some_process : 0 < process_count setup
-  pub shared : setup.shared_heaps ≤ 64
-  pub limits : AreLimits setup
 
 -- The type of the object is one of the setup's, and so is its segment, and its fields are few. The directory has no type.
 pub record IsDeclared (setup : Trace) (o : Object) : Type 0 where

@@ -1,6 +1,6 @@
 //! The state with which a trace begins.
 ghost use Rattle.std.specs.Prelude.{◌≡◌, ◌≤◌, [], ◌∷◌, IfOk, None, map, replicate, length};
-ghost use Rattle.k_state.specs.Machines.{AreSetupRules};
+ghost use Rattle.k_setup.specs.Setups.{AreSetupRules};
 ghost use Rattle.k_types.specs.Names.{directory};
 ghost use Rattle.k_types.specs.State.{opening, Refers};
 ghost use Rattle.k_types.specs.Trace.{trace_of};

@@ -1,7 +1,3 @@
-pub mod Known
-pub mod LineLemmas
-pub mod Counting
-pub mod Objects
 pub mod Machine
 pub mod Reports
 pub mod InOrder

@@ -1,30 +1,17 @@
-//! The report of a run: what it says, and the writing of it.
+//! The report of a run: what it says, and what it is printed from.
 //!
-//! A [`View`] shows the trace, the history and the last state of a run. [`report`] writes the text
-//! that the definitions give for what the view shows: all of it, or, after a fault of the sink, a
-//! front of it. Neither takes memory. The parts of a report that show a state are in [`parts`].
+//! A [`View`] shows the trace, the history and the last state of a run. What is shown has one text, which the definitions give;
+//! `k_report` writes it. The laws tell what of a trace a report reads and by what its exit items are known, and the reports of
+//! worked traces are computed by the definitions.
 //!
-//! Below stand `k_types` with the machine, `k_words` and `k_trace` with the words and names of the
-//! texts, and `k_io` with sinks.
+//! Below stand `k_types` with the machine, and `k_words` and `k_trace` with the words and names of the texts.
 #![tactic(auto)]
 
-mod charges;
-mod events;
-mod exits;
-mod faults;
-mod graph;
-mod heading;
 mod laws;
-pub mod parts;
-mod reporting;
-mod roots;
-mod shares;
 mod view;
-mod words;
 mod worked;
 
 pub use laws::{exits_are_told_by_their_targets, reports_read_the_setup_alone};
-pub use reporting::report;
 pub use view::View;
 pub use worked::{
     a_process_ends_another_row, all_processes_end_row, barrier_row, ceiling_row,

@@ -1,6 +1,6 @@
 //! Bodies of a trace.
 use k_bodies::bodies;
-use k_trace::read_trace;
+use k_reader::read_trace;
 use k_types::TypeId;
 use std::test::Fail;
 

@@ -1,6 +1,6 @@
 //! Texts that are read and spelled again.
+use k_reader::read_trace;
 use k_spell::trace_text;
-use k_trace::read_trace;
 use std::test::Fail;
 
 /// Each form of line, with processes that take turns.

@@ -1,4 +1,3 @@
-pub mod Reports
 pub mod Runs
 pub mod Scripts
 pub mod Snaps

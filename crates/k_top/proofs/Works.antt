@@ -7,21 +7,22 @@ use Rattle.k_trace.specs.Named.{DeclaredNames, NamedTrace}
 use Rattle.k_trace.specs.Rules.{IsTrace}
 use Rattle.k_answers.specs.Good.{IsBegun}
 use Rattle.k_answers.proofs.Rooms.{few_events}
-use Rattle.k_run.specs.k_outcome.Ends.{EndValue, IsEnd, journal_of}
-use Rattle.k_run.specs.Runs.{IsRunOf}
-use Rattle.k_answers.specs.Machines.{AreSetupRules}
+use Rattle.k_runner.specs.k_run.k_outcome.Ends.{EndValue, IsEnd, journal_of}
+use Rattle.k_runner.specs.k_run.Runs.{IsRunOf}
+use Rattle.k_answers.specs.Setups.{AreSetupRules}
 use Rattle.k_answers.specs.k_work.Crediting.{AreSmall}
 use Rattle.k_answers.specs.k_work.Lines.{work_text}
 use Rattle.k_answers.specs.k_work.Tables.{Work, work_of}
 use Rattle.k_answers.proofs.WorkNumbers.{below_length}
 use Rattle.k_answers.proofs.Unread.{work_unread}
-use Rattle.k_answers.specs.declared.status.Status.TheVariants.{Good}
-use Rattle.k_answers.specs.Ends.{Input}
-use Rattle.k_answers.specs.Parts.{TellsOfBytes, TellsOfSource}
+use Rattle.k_status.specs.declared.status.Status.TheVariants.{Good}
+use Rattle.k_status.specs.Ends.{Input}
+use Rattle.k_status.specs.Telling.{TellsOfBytes, TellsOfSource}
 use Rattle.k_answers.specs.Reports.{IsWorkReport}
-use Rattle.k_answers.specs.Readings.{GaveTrace}
-use Rattle.k_top.specs.Runs.{CanBeWritten, HasWorkedRun, text_of}
-use Rattle.k_top.proofs.Reports.{named_in_run, report_by_run}
+use Rattle.k_status.specs.Readings.{GaveTrace}
+use Rattle.k_runner.specs.Runs.{text_of}
+use Rattle.k_top.specs.Runs.{CanBeWritten, HasWorkedRun}
+use Rattle.k_runner.proofs.Reports.{named_in_run, report_by_run}
 
 -- The journal of a run has fewer events than a table of its work has room for.
 pub run_few : (t : NamedTrace) (end : EndValue) → IsTrace t → IsRunOf t end → length (journal_of end) < 2 ^ 29

@@ -1,15 +1,18 @@
 //! The top call.
 ghost use Rattle.std.specs.Prelude.{◌≡◌, map, string_bytes};
-ghost use Rattle.k_answers.specs.Answers.{IsAnswered, IsUnwritten};
+ghost use Rattle.k_answers.specs.Answers.{IsAnswered};
+ghost use Rattle.k_answers.specs.Parts.{Means};
+ghost use Rattle.k_status.specs.Telling.{Answers, IsUnwritten};
 ghost use Rattle.k_answers.specs.Commands.{IsReading};
 
-use crate::running::run_file;
-use crate::settling::answer_at_once;
+use crate::settling::tell_at_once;
 use crate::watching::watch_file;
 use crate::working::work_file;
 use crate::workload::run_workload;
-use k_answers::{Command, Status, command_of};
+use k_answers::{Command, command_of};
 use k_io::{Gate, Sink, Source};
+use k_runner::run_file;
+use k_status::Status;
 use std::alloc::Global;
 use std::sync::Wait;
 use std::thread::Threads;
@@ -43,6 +46,25 @@ pub fn kaffe<S: Source, K: Sink, G: Gate, R: Threads + Wait + Sync>(
     ensures unread { ¬ IsReading (map string_bytes words.now) → src.new ≡ src.old }
     ensures unwritten { IsUnwritten result → out.new ≡ out.old }
 {
+    tell(rt, alloc, words, src, out, gate)
+}
+
+/// Does what the words say, and tells what its status means of the words and the source.
+pub(crate) fn tell<S: Source, K: Sink, G: Gate, R: Threads + Wait + Sync>(
+    rt: &R,
+    alloc: Global,
+    words: &[String],
+    src: &mut S,
+    out: &mut K,
+    gate: &G,
+) -> Status
+    ensures told { Answers
+        (Means (map string_bytes words.now) (record { left = S.left src.old; rest = S.left src.new; failed_before = S.faults src.old; failed_after = S.faults src.new }))
+        (record { agreed = K.Holds out.old; agrees = K.Holds out.new; failed_before = K.faults out.old; failed_after = K.faults out.new })
+        result }
+    ensures unread { ¬ IsReading (map string_bytes words.now) → src.new ≡ src.old }
+    ensures unwritten { IsUnwritten result → out.new ≡ out.old }
+{
     match command_of(words) {
         Some(Command::Run) => run_file(rt, alloc, src, out, gate),
         Some(Command::Big(objects)) => run_workload(rt, alloc, objects, out, gate),
@@ -53,6 +75,6 @@ pub fn kaffe<S: Source, K: Sink, G: Gate, R: Threads + Wait + Sync>(
         | Some(Command::Snap)
         | Some(Command::Audit)
         | Some(Command::Tree)
-        | None => answer_at_once(alloc, words, src, out),
+        | None => tell_at_once(alloc, words, src, out),
     }
 }

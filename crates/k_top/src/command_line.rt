@@ -1,11 +1,12 @@
 //! The program but for its streams: from the arguments of the command line to an exit status.
-ghost use Rattle.std.specs.Prelude.{◌≡◌, IfOk, map, string_bytes};
 ghost use Rattle.std.specs.Process.{exit_status};
-ghost use Rattle.k_top.specs.Endings.{EndsWith, words_of};
+ghost use Rattle.k_answers.specs.Answers.{IsAnswered};
+ghost use Rattle.k_status.specs.Arguments.{words_of};
+ghost use Rattle.k_status.specs.Telling.{EndsWith};
 
 use crate::gathering::gathered_call;
-use k_answers::{exit_code, want_of_memory};
-use k_io::{Gate, NoMemory, Sink, Source, push};
+use k_io::{Gate, Sink, Source};
+use k_status::{exit_code, want_of_memory, words_after_name};
 use std::alloc::Global;
 use std::env::Args;
 use std::io;
@@ -13,27 +14,6 @@ use std::marker::Brand;
 use std::process::ExitCode;
 use std::sync::Wait;
 use std::thread::Threads;
-
-/// The words after the program's name; none where an argument is not UTF-8, which is no command.
-fn words_after_name(alloc: Global, args: io::Result<Args>) -> Result<Vec<String>, NoMemory>
-    ensures { IfOk result (λ words. map string_bytes words.items ≡ words_of args) }
-{
-    let mut words = Vec::new(alloc);
-    let mut args = match args {
-        Ok(args) => args,
-        Err(error) => {
-            return match NoMemory::told_by(&error) {
-                Some(refused) => Err(refused),
-                None => Ok(words),
-            };
-        }
-    };
-    args.next();
-    while let Some(word) = args.next() {
-        push(&mut words, word)?;
-    }
-    Ok(words)
-}
 
 /// Does what the arguments say, and gives the exit status of the program, the number of its answer.
 ///
@@ -46,8 +26,10 @@ pub fn program<S: Source, K: Sink, G: Gate, R: Threads + Wait + Sync>(
     out: &mut K,
     gate: &G,
 ) -> ExitCode
-    ensures { EndsWith (words_of args)
+    ensures { EndsWith
+        (IsAnswered (words_of args)
         (record { left = S.left src.old; rest = S.left src.new; failed_before = S.faults src.old; failed_after = S.faults src.new })
+        (record { agreed = K.Holds out.old; agrees = K.Holds out.new; failed_before = K.faults out.old; failed_after = K.faults out.new }))
         (record { agreed = K.Holds out.old; agrees = K.Holds out.new; failed_before = K.faults out.old; failed_after = K.faults out.new })
         (exit_status result) }
 {

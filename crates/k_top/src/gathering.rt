@@ -2,10 +2,10 @@
 ghost use Rattle.std.specs.Prelude.{◌≡◌, map, string_bytes};
 ghost use Rattle.k_answers.specs.Answers.{IsAnswered};
 
-use crate::call::kaffe;
-use k_answers::{Status, after_writing};
+use crate::call::tell;
 use k_gather::{Gathered, SinkName};
 use k_io::{Gate, Sink, Source};
+use k_status::{Status, after_writing};
 use std::alloc::Global;
 use std::sync::Wait;
 use std::thread::Threads;
@@ -28,7 +28,7 @@ pub fn gathered_call<'a, N: SinkName, S: Source, K: Sink, G: Gate, R: Threads + 
     ensures same_sink { result.1.ghost_name ≡ out.entry.ghost_name }
 {
     let mut sink: Gathered<'a, K, N> = Gathered::over(out);
-    match kaffe(rt, alloc, words, src, &mut sink, gate) {
+    match tell(rt, alloc, words, src, &mut sink, gate) {
         Status::WriteFault => (Status::WriteFault, sink.into_inner()),
         status => {
             let handed = sink.hand_on();

@@ -10,7 +10,6 @@
 mod call;
 mod command_line;
 mod gathering;
-mod running;
 mod settling;
 mod snapping;
 mod spawning;
@@ -21,5 +20,5 @@ mod workload;
 pub use call::kaffe;
 pub use command_line::program;
 pub use gathering::gathered_call;
-pub use k_answers::Status;
+pub use k_status::Status;
 pub use settling::answer_at_once;

@@ -1,13 +1,16 @@
 //! What the program answers without waiting for anybody.
 ghost use Rattle.std.specs.Prelude.{◌≡◌, map, string_bytes};
-ghost use Rattle.k_answers.specs.Answers.{IsAnswered, IsUnwritten};
+ghost use Rattle.k_answers.specs.Answers.{IsAnswered};
+ghost use Rattle.k_answers.specs.Parts.{Means};
+ghost use Rattle.k_status.specs.Telling.{Answers, IsUnwritten};
 ghost use Rattle.k_answers.specs.Commands.{IsReading, WaitsForNobody};
 
-use crate::running::replay_file;
 use crate::snapping::snap_file;
 use crate::spawning::tree_file;
-use k_answers::{Command, Status, audit_file, check_file, command_of, write_usage};
+use k_answers::{Command, audit_file, check_file, command_of, write_usage};
 use k_io::{Sink, Source};
+use k_runner::replay_file;
+use k_status::Status;
 use std::alloc::Global;
 
 /// Does what the words say where they are `replay`, `check`, `snap`, `audit`, `tree`, or no command. It waits for nobody, so it returns,
@@ -21,6 +24,24 @@ pub fn answer_at_once<S: Source, K: Sink>(
     requires { WaitsForNobody (map string_bytes words.now) }
     ensures answered { IsAnswered (map string_bytes words.now)
         (record { left = S.left src.old; rest = S.left src.new; failed_before = S.faults src.old; failed_after = S.faults src.new })
+        (record { agreed = K.Holds out.old; agrees = K.Holds out.new; failed_before = K.faults out.old; failed_after = K.faults out.new })
+        result }
+    ensures unread { ¬ IsReading (map string_bytes words.now) → src.new ≡ src.old }
+    ensures unwritten { IsUnwritten result → out.new ≡ out.old }
+{
+    tell_at_once(alloc, words, src, out)
+}
+
+/// Does what these words say, and tells what its status means of the words and the source.
+pub(crate) fn tell_at_once<S: Source, K: Sink>(
+    alloc: Global,
+    words: &[String],
+    src: &mut S,
+    out: &mut K,
+) -> Status
+    requires { WaitsForNobody (map string_bytes words.now) }
+    ensures told { Answers
+        (Means (map string_bytes words.now) (record { left = S.left src.old; rest = S.left src.new; failed_before = S.faults src.old; failed_after = S.faults src.new }))
         (record { agreed = K.Holds out.old; agrees = K.Holds out.new; failed_before = K.faults out.old; failed_after = K.faults out.new })
         result }
     ensures unread { ¬ IsReading (map string_bytes words.now) → src.new ≡ src.old }

@@ -1,13 +1,13 @@
 //! The command that writes the snapshot of the state that a trace leaves.
 ghost use Rattle.std.specs.Prelude.{◌≡◌};
 ghost use Rattle.k_types.specs.Bounds.{most_trace_bytes};
-ghost use Rattle.k_answers.specs.Answers.{IsUnwritten};
-ghost use Rattle.k_answers.specs.Parts.{Answers, TellsOfBytes, TellsOfSource};
+ghost use Rattle.k_status.specs.Telling.{IsUnwritten, Answers, TellsOfBytes, TellsOfSource};
 ghost use Rattle.k_answers.specs.Reports.{IsFileSnapshot};
 
-use crate::running::{replay_source, tell_end};
-use k_answers::{Status, after_writing, snapshot};
+use k_answers::snapshot;
 use k_io::{Sink, Source};
+use k_runner::{replay_source, tell_end};
+use k_status::{Status, after_writing};
 use std::alloc::Global;
 
 /// Reads a trace from the source, does its operations in the order of the file on the caller's thread, and writes the snapshot of the

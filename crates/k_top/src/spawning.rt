@@ -1,15 +1,15 @@
 //! The command that does the operations of a script, whose processes make and end child processes.
 ghost use Rattle.std.specs.Prelude.{◌≡◌, IfErr, IfOk};
 ghost use Rattle.k_types.specs.Bounds.{most_trace_bytes};
-ghost use Rattle.k_answers.specs.Answers.{IsUnwritten};
-ghost use Rattle.k_answers.specs.Parts.{Answers, TellsOfScript, TellsOfSource};
+ghost use Rattle.k_status.specs.Telling.{IsUnwritten, Answers, TellsOfSource};
+ghost use Rattle.k_answers.specs.Parts.{TellsOfScript};
 ghost use Rattle.k_answers.specs.Scripts.{HasCause};
 ghost use Rattle.k_top.specs.Scripts.{HasReplayed};
 
-use crate::running::tell_end;
-use k_answers::{RunError, Status, translation_of};
+use k_answers::translation_of;
 use k_io::{Sink, Source};
-use k_run::{Outcome, replay_trace};
+use k_runner::{Outcome, replay_trace, tell_end};
+use k_status::{RunError, Status};
 use std::alloc::Global;
 
 /// Reads a script from the source, does the operations of its translation in the order of the file on the caller's thread, and writes

@@ -6,7 +6,7 @@ use Rattle.k_words.specs.Words.{Text, word_at}
 use Rattle.k_words.specs.Names.{declares}
 use Rattle.k_trace.specs.Numbered.{AllShort}
 use Rattle.k_trace.specs.Rules.{AreNames}
-use Rattle.k_trace.proofs.Runs.{fresh_at}
+use Rattle.k_trace.proofs.Pushed.{fresh_at}
 use Rattle.k_trace.proofs.Short.{name_is_short}
 
 -- no name that is one is long

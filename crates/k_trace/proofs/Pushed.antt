@@ -1,12 +1,14 @@
--- Lists with one element more.
-use Rattle.std.proofs.Common.{◌≡◌, ◌∙◌, ℕ, suc, ◌<◌, true, false, List, [], ◌∷◌, ◌++◌, length, get_or, refl, sym, ap, arith, inl, inr}
+-- Lists with one element more, and the parts of lists of names.
+use Rattle.std.proofs.Common.{◌≡◌, ◌∙◌, ℕ, suc, ◌+◌, ◌<◌, Bool, true, false, List, [], ◌∷◌, ◌++◌, length, get_or, refl, sym, ap, arith, inl, inr}
 use Rattle.std.proofs.lemmas.Bool.{cases_lt}
-use Rattle.std.proofs.lemmas.List.{get_or_append_left, length-append}
+use Rattle.std.proofs.lemmas.List.{get_or_append_left, get_or-append-add, length-append}
 use Rattle.std.proofs.Math.Seq.{get_or-append_seam}
+use Rattle.std.specs.Str.{bytes_eq}
 use Rattle.k_words.specs.Words.{Text, word_at}
-use Rattle.k_words.specs.Names.{is_name, declares}
+use Rattle.k_words.specs.Names.{is_name, declares, number_of}
 use Rattle.k_limits.proofs.Lists.{length_push}
 use Rattle.k_words.proofs.Again.{declares-at}
+use Rattle.k_words.proofs.Spelled.{name_at}
 use Rattle.k_trace.specs.Rules.{AreNames}
 use Rattle.k_trace.specs.Spelling.{declarations}
 use Rattle.k_words.proofs.Numbered.{declares_append}
@@ -54,8 +56,38 @@ AreNames_front xs ys all = record {
   apart = λ i k below lt e. all.apart i k below (omega (arith, length-append xs ys)) (get_or_append_left xs ys [] i lt ∙ e ∙ sym (get_or_append_left xs ys [] k (omega arith)));
 }
 
+-- the names behind are names
+pub AreNames_back : (xs ys : List Text) → AreNames (xs ++ ys) → AreNames ys
+AreNames_back xs ys all = record {
+  each = λ i lt. rw (← get_or-append-add xs ys i []) (all.each (length xs + i) (omega (arith, length-append xs ys)));
+  apart = λ i k below lt e. all.apart (length xs + i) (length xs + k) (omega arith) (omega (arith, length-append xs ys))
+      (get_or-append-add xs ys i [] ∙ e ∙ sym (get_or-append-add xs ys k []));
+}
+
 pub neither_declares : (xs ys : List Text) (n : Text) → declares xs n ≡ false → declares ys n ≡ false → declares (xs ++ ys) n ≡ false
 neither_declares xs ys n a b = declares_append xs ys n ∙ rw (a, b) refl
+
+-- the number of a name that a list declares is a place in the list
+number_below_cons : (t : Bool) (w n : Text) (names : List Text) → bytes_eq w n ≡ t → declares (n ∷ names) w ≡ true → (declares names w ≡ true → number_of names w < length names)
+    → number_of (n ∷ names) w < length (n ∷ names)
+number_below_cons true w n names e h ih = rw e (omega arith)
+number_below_cons false w n names e h ih = let lt = ih (rw e at h) in rw e (omega arith)
+
+pub number_below : (names : List Text) (w : Text) → declares names w ≡ true → number_of names w < length names
+number_below [] w h = absurd cc
+number_below (n ∷ names) w h = number_below_cons (bytes_eq w n) w n names refl h (number_below names w)
+
+-- a name is not declared by those in front of it
+pub fresh_at : (xs : List Text) (n : Text) (ns : List Text) → AreNames (xs ++ n ∷ ns) → declares xs n ≡ false
+fresh_at xs n ns all = by_test (declares xs n) refl
+  where
+    by_test : (b : Bool) → declares xs n ≡ b → b ≡ false
+    by_test false e = refl
+    by_test true e =
+        let i = number_of xs n in
+        let lt : number_of xs n < length xs = number_below xs n e in
+        absurd (all.apart (length xs) (number_of xs n) lt (omega (arith, length-append xs (n ∷ ns)))
+        (get_or-append_seam xs n ns [] ∙ sym (name_at xs n e) ∙ sym (get_or_append_left xs (n ∷ ns) [] (number_of xs n) lt)))
 
 -- a declaration behind the others
 pub declarations_push : {A : Type 0} (words : Text → A → List Text) (names : List Text) (xs : List A) (n : Text) (x : A) → length names ≡ length xs

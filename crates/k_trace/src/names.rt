@@ -94,7 +94,8 @@ impl Names {
         })
     }
 
-    pub(crate) fn new(alloc: Global) -> Names
+    /// No names.
+    pub fn new(alloc: Global) -> Names
         ensures { result ≡ no_names }
     {
         Names {
@@ -105,8 +106,9 @@ impl Names {
         }
     }
 
+    /// Declares a type behind the others, or nothing where memory runs out.
     #[tactic(auto, using(crate::proofs::Short::AllShort_append))]
-    pub(crate) fn declare_type(&mut self, alloc: Global, name: &[u8]) -> Result<(), NoMemory>
+    pub fn declare_type(&mut self, alloc: Global, name: &[u8]) -> Result<(), NoMemory>
         requires new { IsFalse (declares self.old.types name.now) }
         requires name { IsTrue (is_name name.now) }
         requires few { length self.old.types < 256 }
@@ -116,8 +118,9 @@ impl Names {
         self.types.declare(alloc, name)
     }
 
+    /// Declares a limit behind the others, or nothing where memory runs out.
     #[tactic(auto, using(crate::proofs::Short::AllShort_append))]
-    pub(crate) fn declare_limit(&mut self, alloc: Global, name: &[u8]) -> Result<(), NoMemory>
+    pub fn declare_limit(&mut self, alloc: Global, name: &[u8]) -> Result<(), NoMemory>
         requires new { IsFalse (declares self.old.limits name.now) }
         requires name { IsTrue (is_name name.now) }
         requires few { length self.old.limits < 128 }
@@ -127,8 +130,9 @@ impl Names {
         self.limits.declare(alloc, name)
     }
 
+    /// Declares a process behind the others, or nothing where memory runs out.
     #[tactic(auto, using(crate::proofs::Short::AllShort_append))]
-    pub(crate) fn declare_proc(&mut self, alloc: Global, name: &[u8]) -> Result<(), NoMemory>
+    pub fn declare_proc(&mut self, alloc: Global, name: &[u8]) -> Result<(), NoMemory>
         requires new { IsFalse (declares self.old.procs name.now) }
         requires name { IsTrue (is_name name.now) }
         requires few { length self.old.procs < 64 }
@@ -138,8 +142,9 @@ impl Names {
         self.procs.declare(alloc, name)
     }
 
+    /// Declares a shared heap behind the others, or nothing where memory runs out.
     #[tactic(auto, using(crate::proofs::Short::AllShort_append))]
-    pub(crate) fn declare_shared(&mut self, alloc: Global, name: &[u8]) -> Result<(), NoMemory>
+    pub fn declare_shared(&mut self, alloc: Global, name: &[u8]) -> Result<(), NoMemory>
         requires new { IsFalse (declares self.old.shared name.now) }
         requires name { IsTrue (is_name name.now) }
         requires few { length self.old.shared < 64 }
@@ -239,7 +244,8 @@ impl Names {
         self.types.len()
     }
 
-    pub(crate) fn has_type(&self, name: &[u8]) -> bool
+    /// Whether a type has that name.
+    pub fn has_type(&self, name: &[u8]) -> bool
         ensures { result ≡ declares self.now.types name.now }
     {
         self.types.declares(name)
@@ -253,7 +259,8 @@ impl Names {
         self.limits.len()
     }
 
-    pub(crate) fn has_limit(&self, name: &[u8]) -> bool
+    /// Whether a limit has that name.
+    pub fn has_limit(&self, name: &[u8]) -> bool
         ensures { result ≡ declares self.now.limits name.now }
     {
         self.limits.declares(name)
@@ -267,7 +274,8 @@ impl Names {
         self.procs.len()
     }
 
-    pub(crate) fn has_proc(&self, name: &[u8]) -> bool
+    /// Whether a process has that name.
+    pub fn has_proc(&self, name: &[u8]) -> bool
         ensures { result ≡ declares self.now.procs name.now }
     {
         self.procs.declares(name)
@@ -281,7 +289,8 @@ impl Names {
         self.shared.len()
     }
 
-    pub(crate) fn has_shared(&self, name: &[u8]) -> bool
+    /// Whether a shared heap has that name.
+    pub fn has_shared(&self, name: &[u8]) -> bool
         ensures { result ≡ declares self.now.shared name.now }
     {
         self.shared.declares(name)

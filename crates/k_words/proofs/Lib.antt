@@ -1,5 +1,4 @@
 pub mod Lines
-pub mod Places
 pub mod Digits
 pub mod Spelled
 pub mod Again
@@ -7,3 +6,4 @@ pub mod Feeds
 pub mod Numbered
 pub mod Proper
 pub mod Cuts
+pub mod Chains

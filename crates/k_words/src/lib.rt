@@ -3,7 +3,7 @@
 //! The contracts say exactly which lines and words a text has, what number or register a word is,
 //! and whether a word may be a name. A [`NameList`] is the list of its names. The calls on words
 //! take no memory. A [`LineBuffer`] takes a line that is
-//! being made. Below stand `k_io`, for the want of memory and for sinks, `indexmap`, `arrayvec` and `itoa`.
+//! being made. Below stand `k_io`, for the want of memory and for sinks, and `itoa`.
 #![tactic(auto)]
 
 mod line_buffer;

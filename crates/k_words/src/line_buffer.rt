@@ -3,10 +3,12 @@ ghost use Rattle.std.specs.Prelude.{◌≡◌, ℕ, ◌<◌, ◌≤◌, ◌+◌,
 ghost use Rattle.k_io.specs.Writing.{Writes};
 ghost use Rattle.k_words.specs.Spaced.{spaced};
 
-use arrayvec::ArrayVec;
 use itoa::Buffer;
 use k_io::{NoMemory, Sink, WriteFailed, write_all};
 use std::marker::Model;
+
+/// How many bytes a line has at most.
+pub(crate) const LINE_ROOM: usize = 1024;
 
 /// A line that is being made, in 1,024 bytes that lie where the buffer lies. The longest line of a
 /// report is that of an object, which has at most 984 bytes, and no line that spells a trace is longer. Only
@@ -15,15 +17,19 @@ use std::marker::Model;
 /// Contracts see the bytes of the line so far.
 #[derive(Drop)]
 pub struct LineBuffer {
-    bytes: ArrayVec<u8, 1024>,
+    bytes: [u8; LINE_ROOM],
+    len: usize,
 }
 
 impl Model for LineBuffer {
-    ghost use Rattle.std.specs.Prelude.{List, ℕ};
+    ghost use Rattle.std.specs.Prelude.{List, ℕ, ◌≤◌, take};
+    ghost use Rattle.k_words.specs.declared.line_buffer.TheConstants.{LINE_ROOM};
 
     ghost Value = { List ℕ };
 
-    ghost view = { λ l. l.bytes.items };
+    ghost view = { λ l. take l.len l.bytes };
+
+    ghost invariant = { λ l. l.len ≤ LINE_ROOM };
 }
 
 impl LineBuffer {
@@ -32,8 +38,23 @@ impl LineBuffer {
         ensures { result ≡ [] }
     {
         LineBuffer {
-            bytes: ArrayVec::new(),
+            bytes: [0; LINE_ROOM],
+            len: 0,
         }
+    }
+
+    /// The bytes.
+    fn as_slice(&self) -> &[u8]
+        ensures { result.now ≡ self.now }
+    {
+        &self.bytes[..self.len]
+    }
+
+    /// Lets all bytes go.
+    fn clear(&mut self)
+        ensures { self.new ≡ [] }
+    {
+        self.len = 0;
     }
 
     /// Adds bytes.
@@ -41,7 +62,9 @@ impl LineBuffer {
         requires { length self.old + length text.now ≤ 1024 }
         ensures { self.new ≡ self.old ++ text.now }
     {
-        let _fits = self.bytes.try_extend_from_slice(text);
+        let len = self.len;
+        self.bytes[len..len + text.len()].copy_from_slice(text);
+        self.len = len + text.len();
     }
 
     /// Adds a space and a word.
@@ -100,8 +123,8 @@ impl LineBuffer {
         ensures empty { self.new ≡ [] }
     {
         self.end_line();
-        let result = text.extend_from_slice(self.bytes.as_slice());
-        self.bytes.clear();
+        let result = text.extend_from_slice(self.as_slice());
+        self.clear();
         result?;
         Ok(())
     }
@@ -114,8 +137,8 @@ impl LineBuffer {
         ensures empty { self.new ≡ [] }
     {
         self.end_line();
-        let result = write_all(out, self.bytes.as_slice());
-        self.bytes.clear();
+        let result = write_all(out, self.as_slice());
+        self.clear();
         result
     }
 }

@@ -2,32 +2,61 @@
 ghost use Rattle.std.specs.Prelude.{◌≡◌, ◌<◌, ◌++◌, ◌∷◌, [], length, OnOk, OnErr, IfSome, IsFalse};
 ghost use Rattle.k_words.specs.Words.{word_at};
 ghost use Rattle.k_words.specs.Names.{declares, numbered};
+ghost use Rattle.k_words.specs.Chained.{chain_of};
 
-use indexmap::IndexSet;
 use k_io::NoMemory;
 use std::alloc::Global;
 use std::marker::Model;
 
+/// How many chains there are. Of the 256 names of the longest list four are on each, where they
+/// spread evenly.
+pub(crate) const CHAINS: usize = 64;
+
+/// A name, and the way on along its chain.
+#[derive(Drop)]
+pub(crate) struct Declared {
+    name: Vec<u8>,
+    // One more than the number of the name before it on its chain; 0 where it is the first.
+    before: usize,
+}
+
 /// Names, numbered from 0 in the order of their declaration. Source: own.
 ///
-/// Contracts see the list of the names. A name and its number are found without a look at the
-/// other names.
+/// Contracts see the list of the names. A name and its number are found along the chain of the
+/// names with the same hash, from the last to the first, without a look at the others.
 pub struct NameList {
-    names: IndexSet<Vec<u8>>,
+    names: Vec<Declared>,
+    // One more than the number of the last name on each chain; 0 where there is none.
+    last: [usize; CHAINS],
 }
 
 impl Drop for NameList {
     fn drop(self) {
-        let NameList { names: _ } = self;
+        let NameList { names: _, last: _ } = self;
     }
 }
 
 impl Model for NameList {
-    ghost use Rattle.std.specs.Prelude.{List, ℕ, map};
+    ghost use Rattle.std.specs.Prelude.{List, ℕ};
+    ghost use Rattle.k_words.specs.Chained.{texts, befores, AreChained};
 
     ghost Value = { List (List ℕ) };
 
-    ghost view = { λ l. map (λ name. name.items) l.names.keys };
+    ghost view = { λ l. texts l.names.items };
+
+    ghost invariant = { λ l. AreChained (texts l.names.items) (befores l.names.items) l.last };
+}
+
+/// The chain of a name: a hash of its bytes.
+fn chain(name: &[u8]) -> usize
+    ensures value { result ≡ chain_of name.now }
+    ensures below { result < CHAINS }
+{
+    let mut hash = 0;
+    for byte in name {
+        hash = (hash * 37 + usize::from(*byte)) % CHAINS;
+    }
+    hash
 }
 
 impl NameList {
@@ -36,7 +65,8 @@ impl NameList {
         ensures { result ≡ [] }
     {
         NameList {
-            names: IndexSet::new(alloc),
+            names: Vec::new(alloc),
+            last: [0; CHAINS],
         }
     }
 
@@ -51,7 +81,7 @@ impl NameList {
     pub fn declares(&self, name: &[u8]) -> bool
         ensures { result ≡ declares self.now name.now }
     {
-        self.names.contains(name)
+        self.number(name).is_some()
     }
 
     /// The number of a name; `None` where it was not declared. Source: own.
@@ -59,7 +89,15 @@ impl NameList {
         ensures number { result ≡ numbered self.now name.now }
         ensures within { IfSome result (λ n. n < length self.now) }
     {
-        self.names.get_index_of(name)
+        let mut link = self.last[chain(name)];
+        while link != 0 {
+            let declared = &self.names[link - 1];
+            if declared.name.as_slice() == name {
+                return Some(link - 1);
+            }
+            link = declared.before;
+        }
+        None
     }
 
     /// The name of a number. Source: own.
@@ -67,7 +105,7 @@ impl NameList {
         requires { number < length self.now }
         ensures { result.now ≡ word_at self.now number }
     {
-        self.names.as_slice()[number].as_slice()
+        self.names[number].name.as_slice()
     }
 
     /// Declares a name that was not declared, with the next number. Source: own.
@@ -77,7 +115,13 @@ impl NameList {
         ensures unchanged { OnErr result (self.new ≡ self.old) }
     {
         let owned = Vec::from_slice(alloc, name)?;
-        let _new = self.names.insert(owned)?;
+        let chain = chain(name);
+        let before = self.last[chain];
+        self.names.push(Declared {
+            name: owned,
+            before,
+        })?;
+        self.last[chain] = self.names.len();
         Ok(())
     }
 }

@@ -14,7 +14,7 @@ use Rattle.k_types.specs.Totals.{total}
 use Rattle.k_types.specs.Trace.{Trace}
 use Rattle.k_base.proofs.Ordered.{all_found}
 use Rattle.k_plain.specs.Owned.{is_reference, references_in}
-use Rattle.k_state.specs.Machines.{AreSetupRules}
+use Rattle.k_state.specs.Setups.{AreSetupRules}
 use Rattle.k_work.specs.Credits.{work_in}
 
 few_kinds : (trace : Trace) (ty : Option TypeId) → AreSetupRules trace → length (kinds_by trace ty) ≤ 16

@@ -4,7 +4,7 @@ use Rattle.std.specs.Prelude.{IsErr}
 use Rattle.k_io.specs.Writing.{Writes}
 use Rattle.k_words.specs.Words.{Text, text_of}
 use Rattle.k_text.specs.Writing.{HasWritten}
-use Rattle.k_text.proofs.LineLemmas.{part_failed, part_failed_first, part_missing}
+use Rattle.k_report.proofs.LineLemmas.{part_failed, part_failed_first, part_missing}
 
 abbrev Holds : Type 1
 Holds = List ℕ → List ℕ → Type 0

@@ -13,7 +13,7 @@ use Rattle.k_base.proofs.Sums.{ones, total_append}
 use Rattle.k_frame.proofs.Histories.{history_induction, legal_append}
 use Rattle.k_laws.proofs.SoundSteps.{legal_sound}
 use Rattle.k_solo.proofs.Rooms.{history_room}
-use Rattle.k_state.specs.Machines.{AreSetupRules}
+use Rattle.k_state.specs.Setups.{AreSetupRules}
 use Rattle.k_work.specs.Crediting.{AreSmall, kernel_after}
 use Rattle.k_work.specs.Credits.{Credit, credit_of, credits, work_in}
 use Rattle.k_work.specs.Tables.{ends_in, total_row, work_of}

@@ -15,7 +15,8 @@ use Rattle.k_base.proofs.Sums.{total_append}
 use Rattle.k_frame.proofs.Histories.{legal_front, legal_rest, state_next}
 use Rattle.k_known.proofs.Laws.{events_are_known}
 use Rattle.k_solo.proofs.Rooms.{history_room}
-use Rattle.k_state.specs.Machines.{AreSetupRules, Machine}
+use Rattle.k_state.specs.Machines.{Machine}
+use Rattle.k_state.specs.Setups.{AreSetupRules}
 use Rattle.k_state.specs.Rooms.{HasRoom}
 use Rattle.k_work.specs.Crediting.{HasRoomForAll, IsAmong, kernel_after, row_for, with_credits}
 use Rattle.k_work.specs.Credits.{Credit, asker_of, credit_of, credits, kernel_asker, work_in}

@@ -6,7 +6,7 @@ use Rattle.k_types.specs.Effects.{step}
 use Rattle.k_types.specs.State.{State, opening}
 use Rattle.k_types.specs.Trace.{Trace, process_count}
 use Rattle.k_solo.proofs.Unread.{step_unread}
-use Rattle.k_state.specs.Machines.{setup_of}
+use Rattle.k_state.specs.Setups.{setup_of}
 use Rattle.k_work.specs.Credits.{Credit, credit_of, credits_from, kernel_asker}
 use Rattle.k_work.specs.Tables.{table_of, work_of}
 

@@ -1,6 +1,6 @@
 //! The work of a journal.
 ghost use Rattle.std.specs.Prelude.{◌≡◌, ◌<◌, ◌^◌, [], IfOk, length};
-ghost use Rattle.k_state.specs.Machines.{AreSetupRules};
+ghost use Rattle.k_state.specs.Setups.{AreSetupRules};
 ghost use Rattle.k_types.specs.Steps.{IsLegalHistory};
 ghost use Rattle.k_types.specs.Trace.{trace_of};
 ghost use Rattle.k_work.specs.Crediting.{AreSmall, HasRoomForAll, with_credits};

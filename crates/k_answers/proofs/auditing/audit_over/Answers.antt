@@ -1,12 +1,12 @@
 use Rattle.std.proofs.Common.{◌≡◌, refl, subst}
-use Rattle.k_state.specs.Machines.{setup_of}
+use Rattle.k_state.specs.Setups.{setup_of}
 use Rattle.k_trace.specs.Meaning.{meaning_of}
 use Rattle.k_audit.specs.Verdicts.{IsVerdict}
 use Rattle.k_audit.specs.declared.verdicts.Verdict.{Verdict}
 use Rattle.k_audit.specs.declared.verdicts.Verdict.TheVariants.{Sound, Line, Point}
-use Rattle.k_answers.specs.declared.status.Status.TheVariants.{Good, Refused, WantOfMemory}
+use Rattle.k_status.specs.declared.status.Status.TheVariants.{Good, Refused, WantOfMemory}
 use Rattle.k_answers.specs.Texts.{refused_text, sound_text, unsound_text}
-use Rattle.k_answers.proofs.Answered.{answered_unwritten, answered_written}
+use Rattle.k_status.proofs.Answered.{answered_unwritten, answered_written}
 use Rattle.k_answers.proofs.Decided.{header_of}
 use Rattle.k_answers.proofs.auditing.audit_over.Goals as goal
 

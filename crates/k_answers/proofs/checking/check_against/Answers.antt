@@ -2,9 +2,9 @@ use Rattle.std.proofs.Common.{refl, subst}
 use Rattle.k_check.specs.declared.verdicts.Verdict.{Verdict}
 use Rattle.k_check.specs.Verdicts.{IsVerdict}
 use Rattle.k_trace.specs.Meaning.{meaning_of}
-use Rattle.k_answers.specs.declared.status.Status.TheVariants.{Good, Refused, WantOfMemory}
+use Rattle.k_status.specs.declared.status.Status.TheVariants.{Good, Refused, WantOfMemory}
 use Rattle.k_answers.specs.Texts.{good_text, refused_text}
-use Rattle.k_answers.proofs.Answered.{answered_unwritten, answered_written}
+use Rattle.k_status.proofs.Answered.{answered_unwritten, answered_written}
 use Rattle.k_answers.proofs.checking.check_against.Goals as goal
 
 pub check_report-requires : goal.check_report-requires

@@ -1,10 +1,11 @@
 use Rattle.std.proofs.Common.{refl, subst}
 use Rattle.std.specs.Prelude.{codes}
 use Rattle.k_trace.specs.declared.errors.TraceError.{TraceError}
-use Rattle.k_answers.specs.declared.status.Status.TheVariants.{BadTrace, WantOfMemory}
+use Rattle.k_status.specs.declared.status.Status.TheVariants.{BadTrace, WantOfMemory}
 use Rattle.k_answers.specs.Inputs.{AreBadParts}
-use Rattle.k_answers.specs.Texts.{bad_trace_text}
-use Rattle.k_answers.proofs.Answered.{answered_unwritten, answered_written, answered_more, check_tells, few_behind}
+use Rattle.k_status.specs.Texts.{bad_trace_text}
+use Rattle.k_status.proofs.Answered.{answered_unwritten, answered_written, answered_more}
+use Rattle.k_answers.proofs.Answered.{check_tells, few_behind}
 use Rattle.k_answers.proofs.checking.check_bytes.Goals as goal
 
 pub check_against-requires : goal.check_against-requires

@@ -1,7 +1,8 @@
 use Rattle.std.proofs.Common.{refl, ap, Err}
 use Rattle.k_types.specs.Bounds.{most_check_bytes}
-use Rattle.k_answers.specs.declared.status.Status.TheVariants.{WantOfMemory, ReadFault}
-use Rattle.k_answers.proofs.Answered.{answered_unwritten, answered_more, checked_source_tells, was_read}
+use Rattle.k_status.specs.declared.status.Status.TheVariants.{WantOfMemory, ReadFault}
+use Rattle.k_status.proofs.Answered.{answered_unwritten, answered_more, was_read}
+use Rattle.k_answers.proofs.Answered.{checked_source_tells}
 use Rattle.k_answers.proofs.checking.check_file.Goals as goal
 
 pub returns-in-Ok-clause-answered : goal.returns-in-Ok-clause-answered

@@ -1,6 +1,6 @@
 use Rattle.std.proofs.Common.{arith}
 use Rattle.std.proofs.lemmas.Grind.{common_steps}
-use Rattle.k_text.proofs.LineLemmas.{writes_line}
+use Rattle.k_report.proofs.LineLemmas.{writes_line}
 use Rattle.k_answers.specs.Samples.{sample_words}
 use Rattle.k_answers.proofs.samples.put_sample.Goals as goal
 

@@ -1,6 +1,6 @@
 use Rattle.std.proofs.Common.{arith}
 use Rattle.std.proofs.lemmas.Option.{slice_get-get_or}
-use Rattle.k_text.proofs.LineLemmas.{written_none, listed_next, listed_failed, listed_all}
+use Rattle.k_report.proofs.LineLemmas.{written_none, listed_next, listed_failed, listed_all}
 use Rattle.k_answers.specs.Samples.{sample_words}
 use Rattle.k_answers.proofs.samples.put_samples.Goals as goal
 

@@ -1,5 +1,5 @@
 use Rattle.std.proofs.Common.{◌++◌, ◌∷◌, [], map, codes}
-use Rattle.k_text.proofs.LineLemmas.{part_first, part_then, part_last, part_failed_first, part_failed, part_missing}
+use Rattle.k_report.proofs.LineLemmas.{part_first, part_then, part_last, part_failed_first, part_failed, part_missing}
 use Rattle.k_answers.specs.Samples.{sample_words, samples_lines}
 use Rattle.k_answers.proofs.samples.write_samples.Goals as goal
 

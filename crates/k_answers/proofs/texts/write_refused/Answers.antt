@@ -1,5 +1,5 @@
 use Rattle.k_answers.proofs.Lines.{refused_line}
-use Rattle.k_answers.proofs.Written.{written_by}
+use Rattle.k_status.proofs.Written.{written_by}
 use Rattle.k_io.proofs.Writings.{writes_same}
 use Rattle.k_answers.proofs.texts.write_refused.Goals as goal
 

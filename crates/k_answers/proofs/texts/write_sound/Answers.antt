@@ -1,5 +1,5 @@
 use Rattle.k_answers.specs.Texts.{sound_text}
-use Rattle.k_answers.proofs.Written.{written_by}
+use Rattle.k_status.proofs.Written.{written_by}
 use Rattle.k_answers.proofs.texts.write_sound.Goals as goal
 
 pub returns : goal.returns

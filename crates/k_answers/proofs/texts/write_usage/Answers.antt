@@ -1,5 +1,5 @@
 use Rattle.k_answers.specs.Texts.{usage_text}
-use Rattle.k_answers.proofs.Written.{written_by}
+use Rattle.k_status.proofs.Written.{written_by}
 use Rattle.k_answers.proofs.texts.write_usage.Goals as goal
 
 pub returns : goal.returns

@@ -1,7 +1,7 @@
 use Rattle.std.proofs.Common.{subst, sym}
 use Rattle.k_types.specs.Bounds.{most_trace_bytes}
 use Rattle.k_trace.specs.Rules.{IsTrace}
-use Rattle.k_answers.proofs.Answered.{was_read}
+use Rattle.k_status.proofs.Answered.{was_read}
 use Rattle.k_answers.proofs.translating.translation_of.Goals as goal
 
 pub returns-in-Ok-read_script-clause-ok : goal.returns-in-Ok-read_script-clause-ok

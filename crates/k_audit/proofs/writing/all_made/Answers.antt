@@ -1,6 +1,6 @@
 use Rattle.std.proofs.Common.{arith}
 use Rattle.k_types.specs.Trace.{segment_count}
-use Rattle.k_text.proofs.LineLemmas.{written_none, lines_next, lines_failed, lines_all}
+use Rattle.k_report.proofs.LineLemmas.{written_none, lines_next, lines_failed, lines_all}
 use Rattle.k_audit.specs.Snapshots.{made_line}
 use Rattle.k_audit.proofs.writing.all_made.Goals as goal
 

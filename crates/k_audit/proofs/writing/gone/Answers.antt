@@ -1,7 +1,7 @@
 use Rattle.std.proofs.Common.{arith, not}
 use Rattle.k_types.specs.Names.{among}
 use Rattle.k_types.specs.Trace.{process_count}
-use Rattle.k_text.proofs.LineLemmas.{written_none, numbers_next, numbers_failed, numbers_all}
+use Rattle.k_report.proofs.LineLemmas.{written_none, numbers_next, numbers_failed, numbers_all}
 use Rattle.k_audit.specs.Snapshots.{gone_line, gone_lines}
 use Rattle.k_audit.proofs.writing.gone.Goals as goal
 

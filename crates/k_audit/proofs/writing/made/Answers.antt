@@ -1,7 +1,7 @@
 use Rattle.std.proofs.Common.{◌∷◌, [], map, codes}
 use Rattle.k_types.specs.Numbers.{numbers_below}
 use Rattle.k_types.specs.Trace.{segment_count}
-use Rattle.k_text.proofs.LineLemmas.{part_first, part_last, part_failed_first, part_missing}
+use Rattle.k_report.proofs.LineLemmas.{part_first, part_last, part_failed_first, part_missing}
 use Rattle.k_audit.specs.Snapshots.{made_line, made_lines}
 use Rattle.k_audit.proofs.writing.made.Goals as goal
 

@@ -2,7 +2,7 @@ use Rattle.std.proofs.Common.{◌∷◌, [], arith, codes}
 use Rattle.std.proofs.lemmas.Grind.{common_steps}
 use Rattle.k_io.proofs.Writings.{writes_nothing}
 use Rattle.k_words.specs.Words.{word_at}
-use Rattle.k_text.proofs.LineLemmas.{writes_line}
+use Rattle.k_report.proofs.LineLemmas.{writes_line}
 use Rattle.k_audit.specs.Snapshots.{gone_line}
 use Rattle.k_audit.proofs.writing.put_gone.Goals as goal
 

@@ -1,6 +1,6 @@
 use Rattle.std.proofs.Common.{arith}
 use Rattle.std.proofs.lemmas.Grind.{common_steps}
-use Rattle.k_text.proofs.LineLemmas.{writes_line}
+use Rattle.k_report.proofs.LineLemmas.{writes_line}
 use Rattle.k_audit.specs.Snapshots.{made_line}
 use Rattle.k_audit.proofs.writing.put_made.Goals as goal
 

@@ -1,5 +1,5 @@
 use Rattle.std.proofs.Common.{◌++◌, ◌∷◌, [], codes}
-use Rattle.k_text.proofs.LineLemmas.{part_failed, part_failed_first, part_first, part_last, part_then}
+use Rattle.k_report.proofs.LineLemmas.{part_failed, part_failed_first, part_first, part_last, part_then}
 use Rattle.k_text.specs.Report.{charges_lines, exits_lines, graph_lines, roots_lines, shares_lines}
 use Rattle.k_audit.specs.Snapshots.{gone_lines, made_lines, snapshot_lines}
 use Rattle.k_audit.proofs.Parts.{parts_missing, with_parts}

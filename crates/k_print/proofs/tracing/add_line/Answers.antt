@@ -1,6 +1,6 @@
 use Rattle.std.proofs.Common.{subst}
 use Rattle.k_types.specs.Known.{IsKnownEvent}
-use Rattle.k_text.proofs.Known.{named_op}
+use Rattle.k_report.proofs.Known.{named_op}
 use Rattle.k_print.proofs.tracing.add_line.Goals as goal
 
 pub push_operation-requires-clause-known : goal.push_operation-requires-clause-known

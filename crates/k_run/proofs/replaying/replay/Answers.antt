@@ -1,7 +1,7 @@
 use Rattle.std.proofs.Common.{[], sym, ap, ◌∙◌, subst}
 use Rattle.k_types.specs.Trace.{trace_of}
-use Rattle.k_outcome.specs.k_process.Heaps.{value_of}
-use Rattle.k_outcome.specs.Ends.{journal_of}
+use Rattle.k_opening.specs.k_outcome.k_process.Heaps.{value_of}
+use Rattle.k_opening.specs.k_outcome.Ends.{journal_of}
 use Rattle.k_run.specs.Runs.{IsRunOf}
 use Rattle.k_run.proofs.Ended.{can_end, ended_run, setup_same}
 use Rattle.k_run.proofs.Replayed.{can_replay, replayed_ends}

@@ -1,4 +1,4 @@
-use Rattle.k_run.specs.Worlds.{IsFree}
+use Rattle.k_opening.specs.Worlds.{IsFree}
 use Rattle.k_run.proofs.running.work.Given as goal
 
 abbrev pub invariant-loop : goal.invariant-loop

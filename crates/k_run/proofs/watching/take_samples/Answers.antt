@@ -1,9 +1,9 @@
 use Rattle.std.proofs.Common.{◌∷◌, ◌++◌, [], List, length, ap, arith, refl, sym, subst, ◌∙◌}
 use Rattle.std.proofs.lemmas.List.{length_push}
-use Rattle.k_watch.specs.declared.sample.Sample.{Sample}
-use Rattle.k_watch.specs.Samples.{AllBelow, IsRising}
-use Rattle.k_watch.specs.Values.{WatcherValue}
-use Rattle.k_watch.proofs.SampleLists.{rising_one_more}
+use Rattle.k_opening.specs.k_locks.k_watch.declared.sample.Sample.{Sample}
+use Rattle.k_opening.specs.k_locks.k_watch.Samples.{AllBelow, IsRising}
+use Rattle.k_opening.specs.k_locks.k_watch.Values.{WatcherValue}
+use Rattle.k_opening.proofs.SampleLists.{rising_one_more}
 use Rattle.k_run.proofs.watching.take_samples.Goals as goal
 
 pub push_reserved-requires : goal.push_reserved-requires

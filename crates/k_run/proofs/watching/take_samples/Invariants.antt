@@ -1,5 +1,5 @@
 use Rattle.std.proofs.Common.{◌≡◌, ◌+◌, ◌≤◌, length, vec_capacity}
-use Rattle.k_watch.specs.Samples.{IsRising}
+use Rattle.k_opening.specs.k_locks.k_watch.Samples.{IsRising}
 use Rattle.k_run.proofs.watching.take_samples.Given as goal
 
 abbrev pub invariant-loop-taken : goal.invariant-loop-taken

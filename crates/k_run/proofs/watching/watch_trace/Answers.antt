@@ -1,11 +1,11 @@
 use Rattle.std.proofs.Common.{sym, subst}
 use Rattle.std.specs.Prelude.{IfOk}
 use Rattle.k_types.specs.Trace.{Trace}
-use Rattle.k_outcome.specs.k_process.Worlds.{WorldValue}
-use Rattle.k_outcome.specs.k_process.Heaps.{value_of}
-use Rattle.k_outcome.specs.k_process.Standing.{AllStand}
-use Rattle.k_still.specs.Opening.{IsSetupOf}
-use Rattle.k_outcome.specs.Listed.{AreRoomsFor}
+use Rattle.k_opening.specs.k_outcome.k_process.Worlds.{WorldValue}
+use Rattle.k_opening.specs.k_outcome.k_process.Heaps.{value_of}
+use Rattle.k_opening.specs.k_outcome.k_process.Standing.{AllStand}
+use Rattle.k_opening.specs.k_still.Opening.{IsSetupOf}
+use Rattle.k_opening.specs.k_outcome.Listed.{AreRoomsFor}
 use Rattle.k_trace.specs.Meaning.{meaning_of}
 use Rattle.k_trace.specs.Named.{NamedTrace}
 use Rattle.k_run.specs.Watched.{IsWatchedRunOf}

@@ -1,10 +1,10 @@
 use Rattle.std.proofs.Common.{◌≡◌, sym, subst}
 use Rattle.k_types.specs.FileOrder.{file_order}
-use Rattle.k_outcome.specs.Ends.{journal_of}
+use Rattle.k_opening.specs.k_outcome.Ends.{journal_of}
 use Rattle.k_trace.specs.Meaning.{meaning_of}
 use Rattle.k_trace.specs.Named.{NamedTrace}
 use Rattle.k_run.specs.Runs.{IsRunOf}
-use Rattle.k_run.specs.Stills.{IsOpenedStill}
+use Rattle.k_opening.specs.Stills.{IsOpenedStill}
 use Rattle.k_run.proofs.Told.{named_told}
 use Rattle.k_run.proofs.whole.replay_trace.Goals as goal
 

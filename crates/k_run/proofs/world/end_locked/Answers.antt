@@ -1,8 +1,8 @@
 use Rattle.std.proofs.Common.{refl}
-use Rattle.k_state.specs.Machines.{setup_of}
-use Rattle.k_outcome.specs.k_process.Heaps.{value_of}
-use Rattle.k_outcome.proofs.OverByMeeting.{met_ends}
-use Rattle.k_watch.proofs.ShownOn.{was_shown}
+use Rattle.k_setup.specs.Setups.{setup_of}
+use Rattle.k_opening.specs.k_outcome.k_process.Heaps.{value_of}
+use Rattle.k_opening.proofs.OverByMeeting.{met_ends}
+use Rattle.k_opening.proofs.ShownOn.{was_shown}
 use Rattle.k_run.proofs.world.end_locked.Goals as goal
 
 pub end_all-requires : goal.end_all-requires

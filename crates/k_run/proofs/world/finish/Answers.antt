@@ -1,11 +1,11 @@
 use Rattle.std.proofs.Common.{◌≡◌, [], ap, sym, subst}
 use Rattle.k_types.specs.Trace.{trace_of}
 use Rattle.k_trace.specs.Named.{NamedTrace}
-use Rattle.k_outcome.specs.k_process.Heaps.{value_of}
-use Rattle.k_outcome.specs.k_process.Over.{IsOutcome, cells_of}
-use Rattle.k_outcome.specs.Ends.{EndValue}
+use Rattle.k_opening.specs.k_outcome.k_process.Heaps.{value_of}
+use Rattle.k_opening.specs.k_outcome.k_process.Over.{IsOutcome, cells_of}
+use Rattle.k_opening.specs.k_outcome.Ends.{EndValue}
 use Rattle.k_run.specs.Runs.{IsRunOf}
-use Rattle.k_run.specs.Worlds.{RunValue}
+use Rattle.k_opening.specs.Worlds.{RunValue}
 use Rattle.k_run.proofs.Ended.{can_end, ended_run, setup_same}
 use Rattle.k_run.proofs.world.finish.Goals as goal
 

@@ -2,15 +2,15 @@ use Rattle.std.proofs.Common.{◌≡◌, [], Some, Option, ap, sym, subst}
 use Rattle.atomic_table.specs.Seated.{TableId}
 use Rattle.k_types.specs.Trace.{trace_of}
 use Rattle.k_trace.specs.Named.{NamedTrace}
-use Rattle.k_outcome.specs.k_process.Heaps.{value_of}
-use Rattle.k_outcome.specs.k_process.Over.{IsOutcome, cells_of}
-use Rattle.k_outcome.specs.Ends.{EndValue, journal_of}
-use Rattle.k_watch.specs.Shown.{HasWatched, WasShown}
-use Rattle.k_watch.specs.Values.{PenValue}
+use Rattle.k_opening.specs.k_outcome.k_process.Heaps.{value_of}
+use Rattle.k_opening.specs.k_outcome.k_process.Over.{IsOutcome, cells_of}
+use Rattle.k_opening.specs.k_outcome.Ends.{EndValue, journal_of}
+use Rattle.k_opening.specs.k_locks.k_watch.Shown.{HasWatched, WasShown}
+use Rattle.k_opening.specs.k_locks.k_watch.Values.{PenValue}
 use Rattle.k_run.specs.Runs.{IsRunOf}
-use Rattle.k_run.specs.Worlds.{RunValue}
+use Rattle.k_opening.specs.Worlds.{RunValue}
 use Rattle.k_run.proofs.Ended.{can_end, ended_run, setup_same}
-use Rattle.k_run.proofs.Shows.{has_pen}
+use Rattle.k_run.proofs.Watched.{has_pen}
 use Rattle.k_run.proofs.world.finish_watched.Goals as goal
 
 pub outcome_of-requires : goal.outcome_of-requires

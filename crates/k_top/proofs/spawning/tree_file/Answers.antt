@@ -1,4 +1,4 @@
-use Rattle.k_answers.proofs.Answered.{answered_written}
+use Rattle.k_status.proofs.Answered.{answered_written}
 use Rattle.k_top.proofs.Scripts.{script_named, script_told}
 use Rattle.k_top.proofs.spawning.tree_file.Goals as goal
 

@@ -1,9 +1,9 @@
 use Rattle.std.proofs.Common.{refl}
 use Rattle.k_io.specs.declared.errors.WriteFailed.{WriteFailed}
-use Rattle.k_answers.specs.declared.status.Status.TheVariants.{Good, WantOfMemory}
-use Rattle.k_answers.proofs.Answered.{answered_unwritten, answered_written}
+use Rattle.k_status.specs.declared.status.Status.TheVariants.{Good, WantOfMemory}
+use Rattle.k_status.proofs.Answered.{answered_unwritten, answered_written}
 use Rattle.k_top.proofs.Workloads.{has_limits, has_small_charges, summary_of_run}
-use Rattle.k_answers.proofs.Written.{never_unwritten, written_by}
+use Rattle.k_status.proofs.Written.{never_unwritten, written_by}
 use Rattle.k_top.proofs.workload.run_workload.Goals as goal
 
 pub summary-requires : goal.summary-requires

@@ -1,5 +1,5 @@
 use Rattle.std.proofs.Common.{length, arith}
-use Rattle.k_text.proofs.LineLemmas.{written_none, lines_next, lines_failed, lines_all}
+use Rattle.k_report.proofs.LineLemmas.{written_none, lines_next, lines_failed, lines_all}
 use Rattle.k_work.specs.Lines.{process_line}
 use Rattle.k_work.proofs.writing.put_processes.Goals as goal
 

@@ -1,6 +1,6 @@
 use Rattle.std.proofs.Common.{◌++◌, ◌∷◌, [], map, length, codes, ap}
 use Rattle.k_io.proofs.Writings.{writes_same}
-use Rattle.k_text.proofs.LineLemmas.{part_first, part_then, part_last}
+use Rattle.k_report.proofs.LineLemmas.{part_first, part_then, part_last}
 use Rattle.k_types.specs.Numbers.{numbers_below}
 use Rattle.k_words.specs.Words.{text_of}
 use Rattle.k_work.specs.declared.rows.WorkRow.{WorkRow}

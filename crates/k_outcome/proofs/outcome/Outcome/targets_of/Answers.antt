@@ -4,8 +4,8 @@ use Rattle.k_types.specs.declared.names.Heap.{Heap}
 use Rattle.k_types.specs.declared.names.Name.{Name}
 use Rattle.k_types.specs.Trace.{IsHeap, segment_count, trace_of}
 use Rattle.k_text.specs.Shown.{in_order}
-use Rattle.k_solo.specs.Runs.{heap_at}
-use Rattle.k_solo.proofs.Arranged.{begins_with, row_at}
+use Rattle.k_shown.specs.Heaps.{heap_at}
+use Rattle.k_shown.proofs.Arranged.{begins_with, row_at}
 use Rattle.k_outcome.specs.Cells.{cell_at}
 use Rattle.k_outcome.specs.Ends.{EndValue}
 use Rattle.k_outcome.proofs.outcome.Outcome.targets_of.Goals as goal

@@ -3,8 +3,9 @@ use Rattle.std.proofs.lemmas.List.{length-map}
 use Rattle.k_types.specs.declared.names.Name.{Name}
 use Rattle.k_types.specs.Trace.{IsHeap}
 use Rattle.k_text.specs.Shown.{exits_of}
-use Rattle.k_solo.specs.Runs.{Run, heap_at}
-use Rattle.k_solo.proofs.Arranged.{begins_with, row_at}
+use Rattle.k_solo.specs.Runs.{Run}
+use Rattle.k_shown.specs.Heaps.{heap_at}
+use Rattle.k_shown.proofs.Arranged.{begins_with, row_at}
 use Rattle.k_solo.proofs.ending.PlainEnd.targets_of.Goals as goal
 
 pub returns : goal.returns

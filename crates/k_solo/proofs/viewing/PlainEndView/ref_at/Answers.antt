@@ -1,7 +1,7 @@
 use Rattle.std.proofs.Common.{sym, ap, ◌∙◌}
 use Rattle.k_types.specs.Known.{IsKnownName}
 use Rattle.k_types.specs.Replies.{reference}
-use Rattle.k_solo.proofs.Known.{field_known}
+use Rattle.k_shown.proofs.Known.{field_known}
 use Rattle.k_solo.proofs.viewing.PlainEndView.ref_at.Goals as goal
 use Rattle.k_base.proofs.Lists.{if_some}
 

@@ -3,7 +3,7 @@ use Rattle.std.specs.Prelude.{IfSome}
 use Rattle.k_types.specs.Known.{IsKnownName}
 use Rattle.k_types.specs.declared.names.Name.{Name}
 use Rattle.std.proofs.Common.{Option, sym}
-use Rattle.k_plain.proofs.Held.{held_known}
+use Rattle.k_setup.proofs.Held.{held_known}
 use Rattle.k_solo.proofs.viewing.PlainEndView.reg.Goals as goal
 
 pub returns-clause-known : goal.returns-clause-known

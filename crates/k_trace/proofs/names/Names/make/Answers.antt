@@ -2,8 +2,7 @@ use Rattle.std.proofs.Common.{ℕ, length, ap, arith}
 use Rattle.std.proofs.lemmas.List.{length-map}
 use Rattle.std.specs.Global.{Vec}
 use Rattle.k_trace.proofs.Made.{copies_are_short}
-use Rattle.k_trace.proofs.Pushed.{AreNames_front}
-use Rattle.k_trace.proofs.Tidy.{AreNames_back}
+use Rattle.k_trace.proofs.Pushed.{AreNames_front, AreNames_back}
 use Rattle.k_trace.proofs.names.Names.make.Goals as goal
 
 pub list_of-requires-3 : goal.list_of-requires-3

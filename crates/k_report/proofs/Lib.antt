@@ -1,0 +1,4 @@
+pub mod Known
+pub mod LineLemmas
+pub mod Counting
+pub mod Objects

@@ -1,7 +1,0 @@
-use Rattle.k_run.proofs.collecting.end_kernel.Given as goal
-
-abbrev pub ghost-end_kernel_collection : goal.ghost-end_kernel_collection
-ghost-end_kernel_collection g a = g.W.WorldName.world
-
-abbrev pub ghost-show : goal.ghost-show
-ghost-show g a = record { trace = g.W.WorldName.world.trace; watched = g.W.WorldName.watched }

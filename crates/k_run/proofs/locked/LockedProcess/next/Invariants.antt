@@ -1,4 +1,0 @@
-use Rattle.k_run.proofs.locked.LockedProcess.next.Given as goal
-
-abbrev pub ghost-next : goal.ghost-next
-ghost-next g a = g.W.WorldName.world

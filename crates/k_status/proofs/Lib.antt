@@ -1,0 +1,5 @@
+pub mod Answered
+pub mod Handed
+pub mod Lines
+pub mod ReadBack
+pub mod Written

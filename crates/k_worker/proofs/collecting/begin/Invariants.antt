@@ -1,0 +1,10 @@
+use Rattle.k_worker.proofs.collecting.begin.Given as goal
+
+abbrev pub ghost-publish_all : goal.ghost-publish_all
+ghost-publish_all g a = g.W.WorldName.world
+
+abbrev pub ghost-begin_collection : goal.ghost-begin_collection
+ghost-begin_collection g a = g.W.WorldName.world
+
+abbrev pub ghost-show : goal.ghost-show
+ghost-show g a = record { trace = g.W.WorldName.world.trace; watched = g.W.WorldName.watched }

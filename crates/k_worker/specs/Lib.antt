@@ -1,0 +1,2 @@
+pub mod Running
+pub use Rattle.k_complete.specs.Replaying
