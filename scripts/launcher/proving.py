@@ -121,20 +121,25 @@ class Build:
         return call
 
     def add(self, names, env, behind=0):
-        """Begins a call beside the one for the program."""
-        call = self.begin(names, env, behind)
-        self.others.append(call)
+        """Begins a call beside the one for the program, unless those have been ended meanwhile."""
+        with self.turn:
+            if self.failed or not self.is_shared:
+                return
+            call = self.begin(names, env, behind)
+            self.others.append(call)
         self.threads.append(threading.Thread(target=self.follow, args=(call,)))
         self.threads[-1].start()
 
     def follow(self, call):
         """Reads what a call says, until it ends."""
-        with call.stdout:
-            for line in call.stdout:
-                with self.turn:
-                    self.take(line)
-        if call.wait() or all(it.poll() is not None for it in self.others):
-            self.wake()
+        try:
+            with call.stdout:
+                for line in call.stdout:
+                    with self.turn:
+                        self.take(line)
+        finally:
+            if call.wait() or all(it.poll() is not None for it in self.others):
+                self.wake()
 
     def await_all(self, names):
         """What is set once all these crates are proved, or calls have ended before."""
@@ -198,8 +203,7 @@ class Build:
             self.add(ANSWERS, half, BEHIND)
         elif rest:
             is_apart.wait()
-            if self.is_shared and not self.failed:
-                self.add(rest, half, FAR_BEHIND)
+            self.add(rest, half, FAR_BEHIND)
         is_near.wait()
 
     def whole(self, need, lists, env):
@@ -207,11 +211,12 @@ class Build:
         try:
             if "RT_JOBS" not in env and {*CHAIN} <= {*need}:
                 self.beside(need, lists, env)
-            if self.failed:
-                return False
-            call = self.begin([], env)
-            self.follow(call)
-            return not call.returncode
+            # (a crate that is not proved ends all calls that have begun, so none begins after it)
+            with self.turn:
+                call = None if self.failed else self.begin([], env)
+            if call:
+                self.follow(call)
+            return call is not None and not call.returncode
         finally:
             self.end(self.calls)
             for it in self.threads:
