@@ -2,8 +2,8 @@
 
 `rt ci` gives each proof as many processors as no other proof waits for when it begins, and never more. So a long proof for which much
 waits keeps the one that it began with, and others are idle behind it. Where there is memory for it, several calls of rt therefore run at once:
-some for crates of the longest chain and what they stand on, one for the answers, where the program has them, or for what it needs beside the
-run. Each takes from the kit's store what another has proved. The system shares the processors between them.
+some for crates of the longest chain and what they stand on, one for the answers, where the program has them, and one for the program. Each takes
+from the kit's store what another has proved. The system shares the processors between them.
 """
 import collections
 import contextlib
@@ -25,14 +25,11 @@ MEMORY_EACH_KB = 2_600_000
 AMPLE_MEMORY_EACH_KB = 5_000_000
 LINES_SHOWN = 60
 # Crates of the longest chain, each with a call of rt for it and what it stands on: the last crate of a call gets two processors, and one where rt
-# sees others that could begin with it. The call of the last one is for the run.
-CHAIN, ANSWERS = ("k_space", "k_cell", "k_pair", "k_worker", "k_run"), ("k_answers",)
-# What a program without the answers needs beside the run. Its call begins once all is proved on which both stand, so that the run waits for
-# nothing that it has begun.
-REST = ("k_status", "k_report", "k_gather")
-# The answers come behind the run, as `nice` counts it, and have half of the processors: less is to be proved for them, and the program needs both.
-# The rest has what the run leaves.
-BEHIND, FAR_BEHIND = 2, 5
+# sees others that could begin with it.
+CHAIN = ("k_space", "k_cell", "k_operate", "k_worker")
+# A program with the answers has a call for the run and one for them, and its own begins once all is proved on which the run stands. The answers
+# come behind the run, as `nice` counts it, and have half of the processors: less is to be proved for them, and the program needs both.
+RUN, ANSWERS, BEHIND = "k_run", "k_answers", 2
 TOLD = re.compile(r"rt: (\w+) (?:(proved)|(is kept)\b.*|NOT PROVED\b.*)\n")
 
 
@@ -108,8 +105,8 @@ class Build:
         self.last, self.turn = collections.deque(maxlen=LINES_SHOWN), threading.Lock()
         # The crates that were told of, each with whether it was proved now; the one that is not proved, if one is not.
         self.told, self.failed = {}, None
-        # Whether calls take what others have proved, and sets of crates, each with what tells that all of them are proved.
-        self.is_shared, self.awaited = True, []
+        # Whether calls take what others have proved; the crates on which the run stands, and what is set once all of them are proved.
+        self.is_shared, self.below_run, self.is_near = True, set(), threading.Event()
 
     def begin(self, names, env, behind=0):
         """Begins a call of rt for these crates and what they stand on, or for all, and gives the call. It comes behind others by so much."""
@@ -139,17 +136,7 @@ class Build:
                         self.take(line)
         finally:
             if call.wait() or all(it.poll() is not None for it in self.others):
-                self.wake()
-
-    def await_all(self, names):
-        """What is set once all these crates are proved, or calls have ended before."""
-        self.awaited.append((names, threading.Event()))
-        return self.awaited[-1][1]
-
-    def wake(self):
-        """Has nobody wait any more."""
-        for _, event in self.awaited:
-            event.set()
+                self.is_near.set()
 
     def take(self, line):
         """Takes one line that a call has said."""
@@ -176,9 +163,8 @@ class Build:
             self.failed = crate
             self.end(self.calls)
         self.told.setdefault(crate, is_proved)
-        for names, event in self.awaited:
-            if names <= {*self.told}:
-                event.set()
+        if self.below_run <= {*self.told}:
+            self.is_near.set()
 
     def go_alone(self):
         """Ends the calls beside the one for the program, so that this one does all."""
@@ -187,29 +173,26 @@ class Build:
             self.end(self.others)
 
     def end(self, calls):
-        """Ends those of these calls that still run."""
+        """Ends those of these calls that still run. Nobody waits any more then."""
         for call in calls:
             call.terminate()
-        self.wake()
+        self.is_near.set()
 
     def beside(self, need, lists, env):
-        """Has calls run beside each other, until all is proved on which the end of CHAIN stands, or they have ended before."""
-        rest, half = [it for it in REST if it in need], one_each(max(1, at_once() // 2))
-        below_run = {*sources.with_below(lists, CHAIN[-1])} - {CHAIN[-1]}
-        is_near, is_apart = self.await_all(below_run), self.await_all(below_run & {*sources.with_below(lists, *rest)})
+        """Begins the calls beside the one for the program. With the answers it waits until all is proved on which the run stands, or calls have
+        ended before."""
+        self.below_run = {*sources.with_below(lists, RUN)} - {RUN}
         for crate in CHAIN:
             self.add([crate], env)
-        if {*ANSWERS} <= {*need}:
-            self.add(ANSWERS, half, BEHIND)
-        elif rest:
-            is_apart.wait()
-            self.add(rest, half, FAR_BEHIND)
-        is_near.wait()
+        if ANSWERS in need:
+            self.add([RUN], env)
+            self.add([ANSWERS], one_each(max(1, at_once() // 2)), BEHIND)
+            self.is_near.wait()
 
     def whole(self, need, lists, env):
         """Proves and builds the program, and gives whether that went well."""
         try:
-            if "RT_JOBS" not in env and {*CHAIN} <= {*need}:
+            if "RT_JOBS" not in env and {*CHAIN, RUN} <= {*need}:
                 self.beside(need, lists, env)
             # (a crate that is not proved ends all calls that have begun, so none begins after it)
             with self.turn:

@@ -98,14 +98,14 @@ done
 class Beside(unittest.TestCase):
     """Several calls of rt at once."""
 
-    BELOW = {"k_io": [], "k_space": [], "k_cell": ["k_space"], "k_pair": ["k_cell"], "k_worker": ["k_pair"], "k_run": ["k_io", "k_worker"]}
+    BELOW = {"k_io": [], "k_space": [], "k_cell": ["k_space"], "k_operate": ["k_cell"], "k_worker": ["k_operate"], "k_run": ["k_io", "k_worker"]}
     BELOW["k_status"] = ["k_io", "k_space"]
     LISTS = {
         "kaffe": {**BELOW, "k_answers": ["k_status"], "kaffe": ["k_run", "k_answers"]},
         "kaffe_run": {**BELOW, "kaffe_run": ["k_run", "k_status"]},
     }
-    # The call behind the others, which has half of the processors.
-    BEHIND = {"kaffe": "k_answers with 2 behind by 2", "kaffe_run": "k_status with 2 behind by 5"}
+    # The calls beside those for the chain and for the program.
+    MORE = {"kaffe": ["k_answers with 2 behind by 2", "k_run"], "kaffe_run": []}
 
     def setUp(self):
         self.room = tempfile.mkdtemp(prefix="test-launcher-")
@@ -142,13 +142,13 @@ class Beside(unittest.TestCase):
                 self.forget()
                 is_built, told, calls, _ = self.built(program)
                 self.assertEqual((is_built, sorted(told), told[-1]), (True, sorted(lists), program))
-                self.assertEqual(calls, sorted(["", *proving.CHAIN, self.BEHIND[program]]))
+                self.assertEqual(calls, sorted(["", *proving.CHAIN, *self.MORE[program]]))
 
     def test_the_calls_are_for_crates_that_are_there(self):
         for program in self.LISTS:
             need = {*sources.crates_below(TOP, program)[0]}
-            self.assertEqual({*proving.CHAIN, *proving.REST} - need, set())
-            self.assertEqual({*proving.ANSWERS} <= need, program == "kaffe")
+            self.assertEqual({*proving.CHAIN, proving.RUN} - need, set())
+            self.assertEqual(proving.ANSWERS in need, program == "kaffe")
 
     def test_the_whole_program_after_the_smaller_one_takes_what_is_kept(self):
         self.built("kaffe_run")

@@ -9,7 +9,7 @@ use Rattle.k_trace.specs.Named.{NamedTrace}
 use Rattle.k_trace.specs.Rules.{IsTrace, Spells}
 use Rattle.k_reader.proofs.Exact.{apart, one}
 use Rattle.k_history.specs.Good.{IsGoodReport, IsRefusedAt}
-use Rattle.k_history.proofs.Refusals.{proper}
+use Rattle.k_reports.proofs.Proper.{proper}
 use Rattle.k_state.specs.Setups.{setup_of}
 use Rattle.k_check.proofs.Lines.{setup_rules}
 use Rattle.k_check.proofs.Splits.{one_split}

@@ -6,7 +6,7 @@ use Rattle.k_words.specs.Words.{Text}
 use Rattle.k_trace.specs.Named.{NamedTrace}
 use Rattle.k_trace.specs.Rules.{Spells}
 use Rattle.k_history.specs.Good.{IsGoodReport, IsRefusedAt}
-use Rattle.k_reports.specs.Verdicts.{IsRefused}
+use Rattle.k_history.specs.Verdicts.{IsRefused}
 use Rattle.k_state.specs.Setups.{setup_of}
 use Rattle.k_audit.specs.Verdicts.{IsVerdict}
 use Rattle.k_audit.specs.declared.verdicts.Verdict.{Verdict}

@@ -6,7 +6,7 @@ pub mod Reports
 pub mod Answers
 pub mod Scripts
 pub mod Parts
-pub use Rattle.k_history.specs.Good
+pub use Rattle.k_reports.specs.Begun
 pub use Rattle.k_state.specs.Setups
 pub use Rattle.k_audit.specs as k_audit
 pub use Rattle.k_big.specs as k_big

@@ -2,7 +2,7 @@
 use Rattle.std.specs.Prelude.{◌≡◌, ◌≢◌, ℕ, List, [], Ok}
 use Rattle.k_words.specs.Words.{Text}
 use Rattle.k_trace.specs.Named.{NamedTrace}
-use Rattle.k_reports.specs.Verdicts.{IsAccepted, IsRefused}
+use Rattle.k_history.specs.Verdicts.{IsAccepted, IsRefused}
 use Rattle.k_state.specs.Setups.{setup_of}
 use Rattle.k_audit.specs.Verdicts.{IsVerdict}
 use Rattle.k_audit.specs.declared.verdicts.Verdict.{Verdict}

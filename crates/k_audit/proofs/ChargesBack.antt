@@ -13,8 +13,8 @@ use Rattle.k_words.proofs.Spelled.{same}
 use Rattle.k_trace.specs.Named.{DeclaredNames}
 use Rattle.k_trace.specs.Numbered.{proc_named}
 use Rattle.k_text.specs.Report.{kernel_charge_words, limit_charge_words, phase_words, process_charge_words, shared_charge_words}
-use Rattle.k_history.proofs.Options.{branch, if_some, map_some, some_is}
-use Rattle.k_history.proofs.SpelledWords.{read_proc}
+use Rattle.k_reports.proofs.Options.{branch, if_some, map_some, some_is}
+use Rattle.k_reports.proofs.SpelledWords.{read_proc}
 use Rattle.k_audit.specs.Grammar.{IsNumber, IsSpelledPhase}
 use Rattle.k_audit.specs.Reading.{Pair, Reading, add_heap, add_kernel, add_limit, add_process, bare_phase, heap_line, kernel_line, limit_line, pair_at, phase_of_words, phase_with, process_line, spelled_name}
 use Rattle.k_audit.proofs.Plainly.{IsHeader}

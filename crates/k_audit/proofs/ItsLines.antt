@@ -12,7 +12,7 @@ use Rattle.k_types.specs.State.{ExitItem, Object, Sharing}
 use Rattle.k_types.specs.Trace.{IsHeap, Trace, process_count, segment_count}
 use Rattle.k_words.specs.Words.{Text, text_of}
 use Rattle.k_trace.specs.Named.{DeclaredNames}
-use Rattle.k_history.proofs.Visible.{has_no_feed, is_plain, joined_no_feed}
+use Rattle.k_reports.proofs.Visible.{has_no_feed, is_plain, joined_no_feed}
 use Rattle.k_audit.specs.Claims.{Snap}
 use Rattle.k_audit.specs.Grammar.{IsNumber, IsSpelledExit, IsSpelledName, IsSpelledObject, IsSpelledPhase, IsSpelledShare, IsSpelledSnap}
 use Rattle.k_audit.specs.Lines.{charge_lines, exit_line as exit_words, gone_words, heap_lines, limit_lines, made_lines, object_lines, process_lines, root_lines, share_words, snap_lines}

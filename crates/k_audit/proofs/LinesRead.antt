@@ -23,9 +23,9 @@ use Rattle.k_words.proofs.Again.{is_below-decimal, is_register-word, value-decim
 use Rattle.k_trace.specs.Named.{DeclaredNames}
 use Rattle.k_text.specs.Named.{heap_word, name_word, reference_word, segment_names, type_word}
 use Rattle.k_text.specs.Report.{content_word, kernel_charge_words, limit_charge_words, object_words, phase_words, process_charge_words, shared_charge_words}
-use Rattle.k_history.specs.Reading.{heap_named, is_dot}
-use Rattle.k_history.proofs.SpelledWords.{heap_word_read, name_word_read, object_has_dot}
-use Rattle.k_history.proofs.Visible.{read_back}
+use Rattle.k_reports.specs.Reading.{heap_named, is_dot}
+use Rattle.k_reports.proofs.SpelledWords.{heap_word_read, name_word_read, object_has_dot}
+use Rattle.k_reports.proofs.Visible.{read_back}
 use Rattle.k_audit.specs.Grammar.{IsAfter, IsExitAfter, IsSpelledContent, IsSpelledExit, IsSpelledName, IsSpelledObject, IsSpelledPhase, IsSpelledShare, share_place}
 use Rattle.k_audit.specs.Lines.{exit_line as exit_words, gone_words, made_words, share_words}
 use Rattle.k_audit.specs.Reading.{Reading, add_exit, add_gone, add_heap, add_kernel, add_limit, add_made, add_object, add_process, add_root, add_share, bare_phase, content_of, contents_at, exit_line, exit_of, gone_line, gone_of, graph_line, head_of, heap_line, is_after, is_exit_after, kernel_line, limit_line, made_line, made_of, object_of, object_with, pair_at, phase_of_words, phase_with, process_line, reference_of, root_line, root_of, share_line, share_of, spelled_name, type_of_word}

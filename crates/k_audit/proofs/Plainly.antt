@@ -23,8 +23,8 @@ use Rattle.k_trace.proofs.Pushed.{AreNames_front, AreNames_back}
 use Rattle.k_text.specs.Named.{AreNamed, IsNamedHeap, name_word, reference_word, segment_names, type_word}
 use Rattle.k_text.specs.Report.{content_word, kernel_charge_words, limit_charge_words, object_words, phase_words, process_charge_words, shared_charge_words}
 use Rattle.k_state.specs.Setups.{AreSetupRules}
-use Rattle.k_history.specs.Spelled.{AreProper, IsSpelledName as IsNameSpelled}
-use Rattle.k_history.proofs.Visible.{heap_plain, is_plain, limit_plain, object_plain, plain_words, proc_plain, segment_plain, shared_plain}
+use Rattle.k_reports.specs.Spelled.{AreProper, IsSpelledName as IsNameSpelled}
+use Rattle.k_reports.proofs.Visible.{heap_plain, is_plain, limit_plain, object_plain, plain_words, proc_plain, segment_plain, shared_plain}
 use Rattle.k_audit.specs.Grammar.{IsSpelledContent, IsSpelledExit, IsSpelledName, IsSpelledObject, IsSpelledPhase, IsSpelledShare}
 use Rattle.k_audit.specs.Lines.{exit_line, gone_words, made_words, share_words}
 

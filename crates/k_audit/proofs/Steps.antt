@@ -13,7 +13,7 @@ use Rattle.k_words.specs.Words.{Text, word_at, words_of}
 use Rattle.k_words.proofs.Spelled.{same}
 use Rattle.k_trace.specs.Named.{DeclaredNames}
 use Rattle.k_text.specs.Report.{kernel_charge_words, limit_charge_words, object_words, process_charge_words, shared_charge_words}
-use Rattle.k_history.proofs.Options.{if_some, map_some, some_is}
+use Rattle.k_reports.proofs.Options.{if_some, map_some, some_is}
 use Rattle.k_audit.specs.Grammar.{IsAfter, IsExitAfter, IsNumber, IsSpelledName, share_place}
 use Rattle.k_audit.specs.Lines.{exit_line as exit_words, gone_words, heap_lines, limit_lines, made_lines, made_words, object_lines, process_lines, share_words}
 use Rattle.k_audit.specs.Reading.{Reading, add_exit, add_gone, add_object, add_root, add_share, at_place, charge_line, exit_line, exit_of, gone_line, gone_of, graph_line, is_after, is_exit_after, made_line, made_of, object_of, past_heading, read_at, read_line, root_line, root_of, root_place, share_line, share_of, start_line}

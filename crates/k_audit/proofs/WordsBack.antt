@@ -27,10 +27,10 @@ use Rattle.k_trace.specs.Numbered.{proc_named, shared_named, type_named}
 use Rattle.k_trace.proofs.Pushed.{number_below}
 use Rattle.k_text.specs.Named.{IsNamedHeap, heap_word, name_word, reference_word, segment_names, type_word}
 use Rattle.k_text.specs.Report.{content_word, object_words}
-use Rattle.k_history.specs.Reading.{heap_named, name_of_word}
-use Rattle.k_history.proofs.Options.{branch, if_some, map_some, some_is}
-use Rattle.k_history.proofs.Segments.{some_if}
-use Rattle.k_history.proofs.SpelledWords.{read_heap_word, read_name_word, read_proc, read_shared}
+use Rattle.k_reports.specs.Reading.{heap_named, name_of_word}
+use Rattle.k_reports.proofs.Options.{branch, if_some, map_some, some_is}
+use Rattle.k_reports.proofs.Segments.{some_if}
+use Rattle.k_reports.proofs.SpelledWords.{read_heap_word, read_name_word, read_proc, read_shared}
 use Rattle.k_audit.specs.Grammar.{IsSpelledContent, IsSpelledExit, IsSpelledName, IsSpelledObject, IsSpelledShare}
 use Rattle.k_audit.specs.Lines.{exit_line as exit_words, gone_words, made_words, share_words}
 use Rattle.k_audit.specs.Reading.{Owned, Root, content_of, contents_at, exit_of, gone_of, head_of, made_of, object_of, object_with, reference_of, root_of, share_of, spelled_name, type_of_word}

@@ -4,7 +4,7 @@ use Rattle.k_types.specs.Owners.{bytes_by, owner_of_segment}
 use Rattle.k_types.specs.Limits.{use_within}
 use Rattle.k_types.specs.Updates.{set_register}
 use Rattle.k_text.specs.Worked.{barrier, every_sharer_pays, of_lines}
-use Rattle.k_history.specs.Reading.{heap_named, name_of_word}
+use Rattle.k_reports.specs.Reading.{heap_named, name_of_word}
 use Rattle.k_audit.specs.Answering.{answer_to}
 use Rattle.k_audit.specs.Reading.{bare_phase, charge_line, content_of, contents_at, exit_line, exit_of, gone_line, gone_of, graph_line, head_of, heap_line, kernel_line, limit_line, made_line, made_of, object_of, object_with, pair_at, phase_of_words, phase_with, process_line, read_at, read_lines, reference_of, root_line, root_of, share_line, share_of, spelled_name, start_line, type_of_word}
 use Rattle.k_audit.specs.WorkedAudits.{audited, barrier_snapshot, one_exit_less, one_share_less, sharing_front, sharing_snapshot}

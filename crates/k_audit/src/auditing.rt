@@ -3,7 +3,7 @@ ghost use Rattle.std.specs.Prelude.{◌<◌, ◌-◌, ◌^◌, [], IfOk, IfNone,
 ghost use Rattle.k_state.specs.Setups.{AreSetupRules};
 ghost use Rattle.k_types.specs.Trace.{trace_of};
 ghost use Rattle.k_text.specs.Named.{AreNamed};
-ghost use Rattle.k_history.specs.Spelled.{AreProper};
+ghost use Rattle.k_reports.specs.Spelled.{AreProper};
 ghost use Rattle.k_audit.specs.Grammar.{IsSpelledSnap};
 ghost use Rattle.k_audit.specs.Judged.{AreHeld, IsJudged};
 ghost use Rattle.k_audit.specs.Verdicts.{IsVerdict};

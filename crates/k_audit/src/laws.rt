@@ -6,7 +6,7 @@ ghost use Rattle.k_types.specs.Trace.{Trace};
 ghost use Rattle.k_words.specs.Words.{Text};
 ghost use Rattle.k_trace.specs.Named.{DeclaredNames};
 ghost use Rattle.k_text.specs.Named.{AreNamed};
-ghost use Rattle.k_history.specs.Spelled.{AreProper};
+ghost use Rattle.k_reports.specs.Spelled.{AreProper};
 ghost use Rattle.k_state.specs.Setups.{AreSetupRules};
 ghost use Rattle.k_audit.specs.Claims.{Snap, claims_of, snap_of};
 ghost use Rattle.k_audit.specs.Lines.{snap_text};

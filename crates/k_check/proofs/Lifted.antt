@@ -5,7 +5,7 @@ use Rattle.k_trace.specs.Named.{NamedTrace}
 use Rattle.k_trace.specs.Rules.{IsTrace}
 use Rattle.k_history.specs.Good.{IsGoodReport, IsRefusedAt}
 use Rattle.k_history.proofs.Refusals.{one_line, good_is_not_refused}
-use Rattle.k_reports.specs.Verdicts.{IsAccepted, IsRefused}
+use Rattle.k_history.specs.Verdicts.{IsAccepted, IsRefused}
 use Rattle.k_reports.proofs.Spelled.{all_spelled}
 
 pub accepted : (t : NamedTrace) (report : Text) → IsTrace t → IsGoodReport t report → IsAccepted t report

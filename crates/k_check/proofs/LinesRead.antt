@@ -7,10 +7,11 @@ use Rattle.k_words.specs.Words.{Text, lines_of, words_of, word_at}
 use Rattle.k_words.proofs.Spelled.{same}
 use Rattle.k_trace.specs.Named.{NamedTrace}
 use Rattle.k_trace.specs.Rules.{IsTrace}
-use Rattle.k_history.specs.Reading.{event_of}
-use Rattle.k_history.specs.Good.{event_line, IsBegun, IsReadUpTo, IsRefusedAt}
+use Rattle.k_reports.specs.Reading.{event_of}
+use Rattle.k_history.specs.Good.{IsReadUpTo, IsRefusedAt}
+use Rattle.k_reports.specs.Begun.{event_line, IsBegun}
 use Rattle.k_history.specs.Good.IsRefusedAt.{OfFirst, OfEvent, OfEnd}
-use Rattle.k_history.proofs.Refusals.{proper}
+use Rattle.k_reports.proofs.Proper.{proper}
 use Rattle.k_history.proofs.Verdicts.{other_text, no_event, not_begun, read_more}
 use Rattle.k_check.specs.Stops.{IsAtGraph}
 use Rattle.k_check.specs.Walks.{Walked}

@@ -12,7 +12,7 @@ use Rattle.k_history.specs.Difference.{difference}
 use Rattle.k_history.specs.Good.{IsReadUpTo}
 use Rattle.k_history.specs.Good.IsRefusedAt.{OfGraph, OfReport}
 use Rattle.k_history.proofs.Differences.{same_text}
-use Rattle.k_reports.specs.Verdicts.{IsAccepted, IsRefused}
+use Rattle.k_history.specs.Verdicts.{IsAccepted, IsRefused}
 use Rattle.k_solo.specs.Runs.{Run}
 use Rattle.k_state.specs.Setups.{setup_of}
 use Rattle.k_check.specs.Stops.{IsAtGraph}

@@ -17,7 +17,7 @@ use Rattle.k_trace.specs.Named.{NamedTrace}
 use Rattle.k_trace.specs.Rules.{IsTrace}
 use Rattle.k_frame.proofs.Histories.{run_append}
 use Rattle.k_bounds.proofs.Laws.{operations_done_are_those_of_the_history}
-use Rattle.k_history.specs.Good.{IsBegun}
+use Rattle.k_reports.specs.Begun.{IsBegun}
 use Rattle.k_state.specs.Machines.{Machine}
 use Rattle.k_state.specs.Setups.{setup_of}
 use Rattle.k_solo.proofs.Unread.{legal_unread, possible_read, possible_unread, step_unread}

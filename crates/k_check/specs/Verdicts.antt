@@ -1,7 +1,7 @@
 -- What a verdict says of a report.
 use Rattle.k_words.specs.Words.{Text}
 use Rattle.k_trace.specs.Named.{NamedTrace}
-use Rattle.k_reports.specs.Verdicts.{IsAccepted, IsRefused}
+use Rattle.k_history.specs.Verdicts.{IsAccepted, IsRefused}
 use Rattle.k_check.specs.declared.verdicts.Verdict.{Verdict}
 use Rattle.k_check.specs.declared.verdicts.Verdict.TheVariants.{Good, Refused}
 

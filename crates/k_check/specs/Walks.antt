@@ -4,7 +4,7 @@ use Rattle.k_types.specs.declared.event.Event.{Event}
 use Rattle.k_types.specs.Steps.{state_after}
 use Rattle.k_trace.specs.Named.{NamedTrace}
 use Rattle.k_trace.specs.Rules.{IsTrace}
-use Rattle.k_history.specs.Good.{IsBegun}
+use Rattle.k_reports.specs.Begun.{IsBegun}
 use Rattle.k_state.specs.Machines.{Machine}
 use Rattle.k_state.specs.Setups.{setup_of}
 

@@ -5,7 +5,7 @@ ghost use Rattle.k_types.specs.Steps.{done_by, state_after};
 ghost use Rattle.k_types.specs.Trace.{process_count, operations_of};
 ghost use Rattle.k_trace.specs.Meaning.{meaning_of};
 ghost use Rattle.k_trace.specs.Rules.{IsTrace};
-ghost use Rattle.k_history.specs.Good.{IsBegun};
+ghost use Rattle.k_reports.specs.Begun.{IsBegun};
 ghost use Rattle.k_state.specs.Setups.{setup_of};
 ghost use Rattle.k_check.specs.Turns.{IsInTurn};
 

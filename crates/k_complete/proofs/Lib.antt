@@ -5,7 +5,5 @@ pub mod ClosedKept
 pub mod Added
 pub mod LineKept
 pub mod ReplayKept
-pub mod Grown
 pub mod Halves
 pub mod KilledAt
-pub use Rattle.k_operate.proofs.Since

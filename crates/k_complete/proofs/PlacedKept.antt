@@ -25,7 +25,7 @@ use Rattle.k_operate.specs.Steps.{CanDoNext, HasDoneNext, HasPublishedAll, Spare
 use Rattle.k_complete.specs.Ended.{AreKeptBut, HasCompleted, IsKept}
 use Rattle.k_complete.specs.Placed.{CanDoAt, CanKillAt, HasDoneAt, HasKilledAt}
 use Rattle.k_complete.proofs.EndKept.{fewer_left}
-use Rattle.k_complete.proofs.Grown.{prefix_by, prefix_trans}
+use Rattle.k_operate.proofs.Grown.{prefix_by, prefix_trans}
 use Rattle.k_base.proofs.Lists.{slice_get-set_other, same_value}
 
 -- what is written is found in its place, and any other place holds what it held

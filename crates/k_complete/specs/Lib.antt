@@ -3,9 +3,3 @@ pub mod Closing
 pub mod Ended
 pub mod Replaying
 pub mod Placed
-pub use Rattle.k_operate.specs.Reach
-pub use Rattle.k_operate.specs.Collecting
-pub use Rattle.k_operate.specs.Readiness
-pub use Rattle.k_operate.specs.Killing
-pub use Rattle.k_operate.specs.Adding
-pub use Rattle.k_operate.specs.Steps

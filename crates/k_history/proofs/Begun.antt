@@ -4,25 +4,15 @@ use Rattle.std.specs.List.{AllByRecursion}
 use Rattle.std.proofs.lemmas.Slice.Eq.{bytes_eq-Decides}
 use Rattle.std.proofs.lemmas.List.{append-nil}
 use Rattle.k_types.specs.declared.event.Event.{Event}
-use Rattle.k_types.specs.Trace.{Trace}
-use Rattle.k_types.specs.State.{opening}
-use Rattle.k_types.specs.Steps.{done_by}
-use Rattle.k_frame.proofs.Histories.{legal_front, done_append}
 use Rattle.k_words.specs.Words.{Text, words_of}
 use Rattle.k_trace.specs.Named.{DeclaredNames, NamedTrace}
-use Rattle.k_history.specs.Spelled.{AreProper, IsSpelledEvent}
-use Rattle.k_history.specs.Reading.{event_of}
-use Rattle.k_history.specs.Good.{event_line, IsBegun, IsReadUpTo, IsNoNextEvent}
-use Rattle.k_history.proofs.Options.{some_is}
-use Rattle.k_history.proofs.ReportLines.{not_graph, line_read}
-
--- The first events of a history that is begun are begun.
-pub begun_front : (trace : Trace) (xs ys : List Event) → IsBegun trace (xs ++ ys) → IsBegun trace xs
-begun_front trace xs ys h = record {
-  legal = legal_front trace (opening trace) xs ys h.legal;
-  in_order = λ p known. let rest = h.in_order p known in
-      (done_by p ys ++ rest.0, sym (append_assoc (done_by p xs) (done_by p ys) rest.0) ∙ ap (λ ops. ops ++ rest.0) (sym (done_append p xs ys)) ∙ rest.1);
-}
+use Rattle.k_reports.specs.Spelled.{AreProper, IsSpelledEvent}
+use Rattle.k_reports.specs.Reading.{event_of}
+use Rattle.k_history.specs.Good.{IsReadUpTo, IsNoNextEvent}
+use Rattle.k_reports.specs.Begun.{event_line, IsBegun}
+use Rattle.k_reports.proofs.Begun.{begun_front}
+use Rattle.k_reports.proofs.Options.{some_is}
+use Rattle.k_reports.proofs.ReportLines.{not_graph, line_read}
 
 -- What is left of the lines begins with no event that can come next.
 abbrev pub IsStop : NamedTrace → List Event → List Text → Type 0

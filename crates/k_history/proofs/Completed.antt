@@ -12,7 +12,7 @@ use Rattle.k_types.specs.Trace.{Trace, process_count, operations_of}
 use Rattle.k_types.specs.State.{Scan}
 use Rattle.k_types.specs.Steps.{state_after, done_by, no_orphan}
 use Rattle.k_types.specs.Complete.{all_ended, EndsWithClosing, IsComplete}
-use Rattle.k_history.specs.Good.{IsBegun}
+use Rattle.k_reports.specs.Begun.{IsBegun}
 use Rattle.k_history.proofs.Possible.{Decided, decide_true, decide_both, decide_as}
 
 -- What is decided for each number below a bound is decided for all.

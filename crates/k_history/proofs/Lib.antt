@@ -1,20 +1,8 @@
-pub mod Parted
-pub mod Segments
 pub mod ReplyWords
 pub mod Lines
-pub mod DoneLines
 pub mod Compared
 pub mod Reader
 pub mod Readings
-pub mod SpelledOps
-pub mod Options
-pub mod SpelledWords
-pub mod SpelledFaults
-pub mod SpelledReplies
-pub mod OpWords
-pub mod SpelledEvents
-pub mod Visible
-pub mod ReportLines
 pub mod Differences
 pub mod Begun
 pub mod Refusals
@@ -22,4 +10,3 @@ pub mod Codes
 pub mod Possible
 pub mod Completed
 pub mod Verdicts
-pub mod KnownEvents

@@ -5,8 +5,8 @@ use Rattle.std.specs.Str.{bytes_eq}
 use Rattle.k_types.specs.declared.event.Event.{Event}
 use Rattle.k_words.specs.Words.{Text, lines_of, words_of}
 use Rattle.k_trace.specs.Named.{DeclaredNames}
-use Rattle.k_history.specs.Reading.{event_of}
-use Rattle.k_history.specs.Histories.{onto, events_of_lines}
+use Rattle.k_reports.specs.Reading.{event_of}
+use Rattle.k_reports.specs.Histories.{onto, events_of_lines}
 
 -- The events before those that follow them.
 abbrev pub onto_all : List Event → Result (List Event) ℕ → Result (List Event) ℕ

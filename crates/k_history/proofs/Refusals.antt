@@ -8,18 +8,16 @@ use Rattle.k_words.specs.Words.{Text, lines_of, word_at}
 use Rattle.k_trace.specs.Named.{NamedTrace}
 use Rattle.k_trace.specs.Rules.{IsTrace}
 use Rattle.k_text.specs.Report.{report_text}
-use Rattle.k_history.specs.Spelled.{AreProper, IsSpelledEvent}
+use Rattle.k_reports.specs.Spelled.{AreProper, IsSpelledEvent}
+use Rattle.k_reports.proofs.Proper.{proper}
 use Rattle.k_history.specs.Difference.{difference}
-use Rattle.k_history.specs.Good.{IsBegun, IsGoodReport, IsReadUpTo, AreAllSpelled, IsWrongFirst, IsRefusedAt}
+use Rattle.k_history.specs.Good.{IsGoodReport, IsReadUpTo, IsWrongFirst, IsRefusedAt}
+use Rattle.k_reports.specs.Begun.{IsBegun, AreAllSpelled}
 use Rattle.k_history.specs.Good.IsRefusedAt.{OfFirst, OfEvent, OfEnd, OfGraph, OfReport}
-use Rattle.k_history.proofs.Options.{some_is}
+use Rattle.k_reports.proofs.Options.{some_is}
 use Rattle.k_history.proofs.Differences.{no_difference}
-use Rattle.k_history.proofs.ReportLines.{report_lines_of, behind_graph}
+use Rattle.k_reports.proofs.ReportLines.{report_lines_of, behind_graph}
 use Rattle.k_history.proofs.Begun.{first_line, IsStop, stop_at_end, stop_at_graph, stop_at_other, same_reading}
-
--- The names of a trace can be told apart.
-pub proper : (t : NamedTrace) → IsTrace t → AreProper t.names
-proper t h = record { types = h.type_names; limits = h.limit_names; heaps = h.heap_names }
 
 -- Why the number is answered where the events are read so far and those lines are left.
 data Answer (t : NamedTrace) (report : Text) (history : List Event) (left : List Text) (n : ℕ) : Type 0 where

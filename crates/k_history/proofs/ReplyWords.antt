@@ -7,7 +7,7 @@ use Rattle.k_words.specs.Words.{Text, word_at, words_of}
 use Rattle.k_words.proofs.Lines.{is_space}
 use Rattle.std.proofs.lemmas.List.Splits.{length-slice_split}
 use Rattle.k_trace.specs.Named.{DeclaredNames}
-use Rattle.k_history.specs.Reading.{fault_of, reply_of}
+use Rattle.k_reports.specs.Reading.{fault_of, reply_of}
 
 -- Several words, of which the first isn't `fault`.
 pub several_words : (names : DeclaredNames) (op : Op) (ws : List Text) (w : Text) (rest : Text) → ws ≡ w ∷ words_of rest → bytes_eq (word_at ws 0) (codes "fault") ≡ false → None ≡ reply_of names op ws

@@ -11,15 +11,16 @@ use Rattle.k_words.specs.Words.{Text, lines_of, words_of, word_at}
 use Rattle.k_words.proofs.Spelled.{same}
 use Rattle.k_trace.specs.Named.{NamedTrace}
 use Rattle.k_text.specs.Report.{report_text}
-use Rattle.k_history.specs.Spelled.{AreProper, IsSpelledEvent}
-use Rattle.k_history.specs.Reading.{event_of}
+use Rattle.k_reports.specs.Spelled.{AreProper, IsSpelledEvent}
+use Rattle.k_reports.specs.Reading.{event_of}
 use Rattle.k_history.specs.Difference.{difference}
-use Rattle.k_history.specs.Good.{event_line, IsBegun, IsGoodReport, IsReadUpTo, IsNoNextEvent, IsRefusedAt}
+use Rattle.k_history.specs.Good.{IsGoodReport, IsReadUpTo, IsNoNextEvent, IsRefusedAt}
+use Rattle.k_reports.specs.Begun.{event_line, IsBegun}
 use Rattle.k_history.specs.Good.IsRefusedAt.{OfFirst, OfEvent, OfEnd, OfGraph, OfReport}
-use Rattle.k_history.proofs.Options.{some_is}
+use Rattle.k_reports.proofs.Options.{some_is}
 use Rattle.k_history.proofs.Differences.{same_text}
-use Rattle.k_history.proofs.SpelledEvents.{read_event_words}
-use Rattle.k_history.proofs.ReportLines.{line_read}
+use Rattle.k_reports.proofs.SpelledEvents.{read_event_words}
+use Rattle.k_reports.proofs.ReportLines.{line_read}
 use Rattle.k_history.proofs.Possible.{decide_begun}
 use Rattle.k_history.proofs.Completed.{decide_complete}
 

@@ -1,25 +1,15 @@
 -- Which reports are good, and where one that isn't is refused.
-use Rattle.std.specs.Prelude.{◌≡◌, ◌≢◌, ℕ, ◌+◌, ◌<◌, List, [], ◌∷◌, ◌++◌, map, length, Some, codes}
-use Rattle.std.specs.List.{AllByRecursion, join_with_byte}
+use Rattle.std.specs.Prelude.{◌≡◌, ◌≢◌, ℕ, ◌+◌, List, [], ◌∷◌, ◌++◌, map, length, Some, codes}
+use Rattle.std.specs.List.{AllByRecursion}
 use Rattle.k_types.specs.declared.event.Event.{Event}
-use Rattle.k_types.specs.Trace.{Trace, process_count, operations_of}
-use Rattle.k_types.specs.Steps.{IsLegalHistory, done_by}
-use Rattle.k_types.specs.Complete.{IsPrefixOf, IsComplete}
+use Rattle.k_types.specs.Steps.{IsLegalHistory}
+use Rattle.k_types.specs.Complete.{IsComplete}
 use Rattle.k_words.specs.Words.{Text, lines_of, word_at}
-use Rattle.k_trace.specs.Named.{DeclaredNames, NamedTrace}
-use Rattle.k_text.specs.EventLines.{event_words}
+use Rattle.k_trace.specs.Named.{NamedTrace}
 use Rattle.k_text.specs.Report.{report_text}
-use Rattle.k_history.specs.Spelled.{IsSpelledEvent}
+use Rattle.k_reports.specs.Spelled.{IsSpelledEvent}
+use Rattle.k_reports.specs.Begun.{IsBegun, event_line}
 use Rattle.k_history.specs.Difference.{difference}
-
--- The line of an event.
-abbrev pub event_line : DeclaredNames → Event → Text
-event_line names e = join_with_byte 32 (event_words names e)
-
--- The events are possible in turn, and of each process they do the first operations in their order.
-pub record IsBegun (trace : Trace) (history : List Event) : Type 0 where
-  pub legal : IsLegalHistory trace history
-  pub in_order : (p : ℕ) → p < process_count trace → IsPrefixOf (done_by p history) (operations_of trace p)
 
 -- The report is that of a history which is legal and complete for the trace.
 pub record IsGoodReport (t : NamedTrace) (report : Text) : Type 0 where
@@ -37,10 +27,6 @@ pub record IsReadUpTo (t : NamedTrace) (report : Text) (history : List Event) (l
 -- No event has this line and can come next.
 abbrev pub IsNoNextEvent : NamedTrace → List Event → Text → Type 0
 IsNoNextEvent t history line = (e : Event) → IsSpelledEvent t.names e → event_line t.names e ≡ line → ¬ IsBegun t.trace (history ++ e ∷ [])
-
--- Each event of a history that is begun is one that a line can spell.
-abbrev pub AreAllSpelled : NamedTrace → Type 0
-AreAllSpelled t = (history : List Event) → IsBegun t.trace history → AllByRecursion (IsSpelledEvent t.names) history
 
 -- The first line is not `report 1`.
 pub record IsWrongFirst (report : Text) (n : ℕ) : Type 0 where

@@ -16,8 +16,8 @@ use Rattle.k_types.specs.declared.event.Event.{Event}
 use Rattle.k_types.specs.declared.event.Event.TheVariants.{Done, Ended, Absorbed, Closing}
 use Rattle.k_words.specs.Words.{Text, words_of}
 use Rattle.k_trace.specs.Named.{DeclaredNames}
-use Rattle.k_history.specs.Reading.{event_of}
-use Rattle.k_history.specs.Histories.{history_of}
+use Rattle.k_reports.specs.Reading.{event_of}
+use Rattle.k_reports.specs.Histories.{history_of}
 
 -- Two processes, two limits, a shared heap and a type.
 abbrev pub names : DeclaredNames

@@ -1,7 +1,7 @@
 //! The event that a line of a report is.
 ghost use Rattle.std.specs.Prelude.{◌≡◌};
 ghost use Rattle.k_words.specs.Words.{words_of};
-ghost use Rattle.k_history.specs.Reading.{heap_named, ended_of, absorbed_of, closing_of, done_of, event_of};
+ghost use Rattle.k_reports.specs.Reading.{heap_named, ended_of, absorbed_of, closing_of, done_of, event_of};
 
 use crate::replies::read_reply;
 use crate::words::parted;
@@ -11,7 +11,7 @@ use k_types::{Event, Heap};
 use k_words::{after_word, is, number, word, word_count};
 
 /// The heap of that name.
-#[tactic(auto, unfolding(crate::specs::Reading::heap_named))]
+#[tactic(auto, unfolding(k_reports::specs::Reading::heap_named))]
 pub fn heap_named(names: &Names, name: &[u8]) -> Option<Heap>
     ensures { result ≡ heap_named names.now name.now }
 {
@@ -25,7 +25,7 @@ pub fn heap_named(names: &Names, name: &[u8]) -> Option<Heap>
 }
 
 /// The end of a collection that the line is.
-#[tactic(auto, unfolding(crate::specs::Reading::ended_of))]
+#[tactic(auto, unfolding(k_reports::specs::Reading::ended_of))]
 fn read_ended(names: &Names, line: &[u8]) -> Option<Event>
     ensures { result ≡ ended_of names.now (words_of line.now) }
 {
@@ -47,7 +47,7 @@ fn read_ended(names: &Names, line: &[u8]) -> Option<Event>
 }
 
 /// The absorption that the line is.
-#[tactic(auto, unfolding(crate::specs::Reading::absorbed_of))]
+#[tactic(auto, unfolding(k_reports::specs::Reading::absorbed_of))]
 fn read_absorbed(names: &Names, line: &[u8]) -> Option<Event>
     ensures { result ≡ absorbed_of names.now (words_of line.now) }
 {
@@ -59,7 +59,7 @@ fn read_absorbed(names: &Names, line: &[u8]) -> Option<Event>
 }
 
 /// The opening of the last collection that the line is.
-#[tactic(auto, unfolding(crate::specs::Reading::closing_of))]
+#[tactic(auto, unfolding(k_reports::specs::Reading::closing_of))]
 fn read_closing(line: &[u8]) -> Option<Event>
     ensures { result ≡ closing_of (words_of line.now) }
 {
@@ -71,7 +71,7 @@ fn read_closing(line: &[u8]) -> Option<Event>
 }
 
 /// The operation and its reply that the line is.
-#[tactic(auto, unfolding(crate::specs::Reading::done_of))]
+#[tactic(auto, unfolding(k_reports::specs::Reading::done_of))]
 fn read_done(names: &Names, line: &[u8]) -> Option<Event>
     ensures { result ≡ done_of names.now (words_of line.now) }
 {
@@ -91,7 +91,7 @@ fn read_done(names: &Names, line: &[u8]) -> Option<Event>
 
 /// The event that a line of a report is, over these names; `None` where it is no event's line. The line is given without
 /// its line feed. Takes no memory, and time in proportion to the line.
-#[tactic(auto, unfolding(crate::specs::Reading::event_of))]
+#[tactic(auto, unfolding(k_reports::specs::Reading::event_of))]
 pub fn read_event(names: &Names, line: &[u8]) -> Option<Event>
     ensures { result ≡ event_of names.now (words_of line.now) }
 {

@@ -1,14 +1,14 @@
 //! The fault that the words of a reply say.
 ghost use Rattle.std.specs.Prelude.{◌≡◌};
 ghost use Rattle.k_words.specs.Words.{words_of};
-ghost use Rattle.k_history.specs.Reading.{bare_fault, fault_at, fault_of};
+ghost use Rattle.k_reports.specs.Reading.{bare_fault, fault_at, fault_of};
 
 use k_trace::Names;
 use k_types::Fault;
 use k_words::{is, word, word_count};
 
 /// The fault that one word says.
-#[tactic(auto, unfolding(crate::specs::Reading::bare_fault))]
+#[tactic(auto, unfolding(k_reports::specs::Reading::bare_fault))]
 fn bare_fault(word: &[u8]) -> Option<Fault>
     ensures { result ≡ bare_fault word.now }
 {
@@ -37,7 +37,7 @@ fn bare_fault(word: &[u8]) -> Option<Fault>
 }
 
 /// The fault that a word says of the limit, the shared heap or the process of that name.
-#[tactic(auto, unfolding(crate::specs::Reading::fault_at))]
+#[tactic(auto, unfolding(k_reports::specs::Reading::fault_at))]
 fn fault_at(names: &Names, word: &[u8], name: &[u8]) -> Option<Fault>
     ensures { result ≡ fault_at names.now word.now name.now }
 {
@@ -69,7 +69,7 @@ fn fault_at(names: &Names, word: &[u8], name: &[u8]) -> Option<Fault>
 }
 
 /// The fault that the words are.
-#[tactic(auto, unfolding(crate::specs::Reading::fault_of))]
+#[tactic(auto, unfolding(k_reports::specs::Reading::fault_of))]
 pub fn read_fault(names: &Names, words: &[u8]) -> Option<Fault>
     ensures { result ≡ fault_of names.now (words_of words.now) }
 {

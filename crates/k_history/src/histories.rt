@@ -1,7 +1,8 @@
 //! The history that a report's bytes are.
 ghost use Rattle.std.specs.Prelude.{◌<◌, ◌-◌, ◌^◌, length};
 ghost use Rattle.k_words.specs.Words.{lines_of};
-ghost use Rattle.k_history.specs.Histories.{ReadsHistory, events_of_lines, history_of};
+ghost use Rattle.k_history.specs.Histories.{ReadsHistory};
+ghost use Rattle.k_reports.specs.Histories.{events_of_lines, history_of};
 
 use crate::errors::HistoryError;
 use crate::events::read_event;
@@ -42,7 +43,7 @@ fn read_events(alloc: Global, names: &Names, bytes: &[u8]) -> Result<Vec<Event>,
 /// `Bad` exactly where no history can be read: with the number of the first line up to the line `graph` that is not in the
 /// report's grammar, or, where there is no line `graph`, with the number of lines plus 1. `NoMemory` where the events find
 /// no room.
-#[tactic(auto, unfolding(crate::specs::Histories::history_of))]
+#[tactic(auto, unfolding(k_reports::specs::Histories::history_of))]
 pub fn read_history(alloc: Global, names: &Names, bytes: &[u8]) -> Result<Vec<Event>, HistoryError>
     requires few { length bytes.now < 2 ^ 32 - 1 }
     ensures { ReadsHistory result (history_of names.now bytes.now) }

@@ -8,12 +8,14 @@ ghost use Rattle.k_words.specs.Words.{Text};
 ghost use Rattle.k_trace.specs.Named.{DeclaredNames, NamedTrace};
 ghost use Rattle.k_text.specs.EventLines.{event_words};
 ghost use Rattle.k_text.specs.Report.{report_text};
-ghost use Rattle.k_history.specs.Spelled.{AreProper, IsSpelledEvent, IsInRange};
-ghost use Rattle.k_history.specs.Reading.{event_of};
-ghost use Rattle.k_history.specs.Histories.{history_of};
+ghost use Rattle.k_reports.specs.Spelled.{AreProper, IsSpelledEvent, IsInRange};
+ghost use Rattle.k_reports.specs.Reading.{event_of};
+ghost use Rattle.k_reports.specs.Histories.{history_of};
 ghost use Rattle.k_trace.specs.Rules.{IsTrace};
-ghost use Rattle.k_history.specs.Good.{IsBegun, AreAllSpelled, IsGoodReport, IsRefusedAt};
+ghost use Rattle.k_history.specs.Good.{IsGoodReport, IsRefusedAt};
+ghost use Rattle.k_reports.specs.Begun.{IsBegun, AreAllSpelled};
 ghost use Rattle.k_history.specs.Difference.{difference_from, difference};
+ghost use Rattle.k_history.specs.Verdicts.{IsAccepted, IsRefused};
 
 /// Words are read as an event exactly where they spell it, and each event that a line can spell is read as it is spelled,
 /// over names that can be told apart. So an event has one line, and a line one event.
@@ -49,4 +51,9 @@ pub fn reports_are_good_or_refused_at_one_line()
     ensures either { (t : NamedTrace) (report : Text) → IsTrace t → IsGoodReport t report ⊎ ((n : ℕ) × IsRefusedAt t report n) }
     ensures one { (t : NamedTrace) (report : Text) (n m : ℕ) → IsTrace t → IsRefusedAt t report n → IsRefusedAt t report m → n ≡ m }
     ensures apart { (t : NamedTrace) (report : Text) (n : ℕ) → IsTrace t → AreAllSpelled t → IsGoodReport t report → ¬ IsRefusedAt t report n }
+{}
+
+/// Of each report exactly one holds: it is good and refused at no line, or it is not good and refused at one line alone.
+pub fn reports_are_good_or_refused()
+    ensures { (t : NamedTrace) (report : Text) → IsTrace t → IsAccepted t report ⊎ ((n : ℕ) × IsRefused t report n) }
 {}

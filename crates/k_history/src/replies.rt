@@ -1,8 +1,8 @@
 //! The reply that stands after the equals sign of a line.
 ghost use Rattle.std.specs.Prelude.{◌≡◌};
 ghost use Rattle.k_words.specs.Words.{words_of};
-ghost use Rattle.k_history.specs.Spelled.{makes};
-ghost use Rattle.k_history.specs.Reading.{segment_named, name_of_word, reply_with, word_reply, reply_of};
+ghost use Rattle.k_reports.specs.Spelled.{makes};
+ghost use Rattle.k_reports.specs.Reading.{segment_named, name_of_word, reply_with, word_reply, reply_of};
 
 use crate::faults::read_fault;
 use crate::words::cut_at;
@@ -25,7 +25,7 @@ fn segment_named(names: &Names, name: &[u8]) -> Option<u32>
 }
 
 /// The object's name that the word is: a segment's name, a dot and a serial below 2^32.
-#[tactic(auto, unfolding(crate::specs::Reading::name_of_word))]
+#[tactic(auto, unfolding(k_reports::specs::Reading::name_of_word))]
 pub fn read_name(names: &Names, word: &[u8]) -> Option<Name>
     ensures { result ≡ name_of_word names.now word.now }
 {
@@ -57,7 +57,7 @@ fn reply_with(op: Op, name: Name) -> Reply
 }
 
 /// The reply that one word is, after the operation.
-#[tactic(auto, unfolding(crate::specs::Reading::word_reply))]
+#[tactic(auto, unfolding(k_reports::specs::Reading::word_reply))]
 fn word_reply(names: &Names, op: Op, word: &[u8]) -> Option<Reply>
     ensures { result ≡ word_reply names.now op word.now }
 {
@@ -74,7 +74,7 @@ fn word_reply(names: &Names, op: Op, word: &[u8]) -> Option<Reply>
 }
 
 /// The reply that the words are, after the operation.
-#[tactic(auto, unfolding(crate::specs::Reading::reply_of))]
+#[tactic(auto, unfolding(k_reports::specs::Reading::reply_of))]
 pub fn read_reply(names: &Names, op: Op, words: &[u8]) -> Option<Reply>
     ensures { result ≡ reply_of names.now op (words_of words.now) }
 {

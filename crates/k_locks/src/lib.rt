@@ -7,6 +7,7 @@
 
 mod locked;
 mod locks;
+mod ordering;
 mod placing;
 mod rooms;
 mod worlds;
@@ -15,5 +16,9 @@ pub use k_process::{Book, KernelCell, Process, SharedCell};
 pub use k_watch::{Sample, WatchPen, Watcher, make, show, show_end};
 pub use locked::{LockedBook, LockedKernel, LockedProcess, LockedShared};
 pub use locks::{LockRooms, Locks, lock_all, lock_rooms, unlock_all};
+pub use ordering::{
+    BeforeBook, BeforeShared, HoldsKernel, HoldsNone, HoldsProcess, HoldsShared, lock_book,
+    lock_kernel, lock_process, lock_shared, lock_two, try_kernel,
+};
 pub use rooms::{EndRooms, empty_list, end_rooms};
 pub use worlds::WorldName;

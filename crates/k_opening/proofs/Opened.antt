@@ -2,7 +2,7 @@
 use Rattle.std.proofs.Common.{◌≡◌, ◌<◌, ◌^◌, ℕ, refl, sym, ◌∙◌, subst, List, length, replicate, arith}
 use Rattle.std.proofs.lemmas.List.Elements.{All-replicate}
 use Rattle.k_types.specs.declared.setup.Setup.{Setup}
-use Rattle.k_turns.specs.Values.{PassValue, TurnsValue, fresh_pass}
+use Rattle.k_turns.specs.Values.{AreFree, IsFree, PassValue, TurnsValue, fresh_pass}
 use Rattle.k_locks.specs.k_process.SharedHeaps.{SharedRecord}
 use Rattle.k_outcome.specs.k_process.declared.process.Process.{Process}
 use Rattle.k_outcome.specs.k_process.Standing.{HeapsStand, ProcessesStand}
@@ -11,7 +11,7 @@ use Rattle.k_still.specs.Opening.{IsSetupOf}
 use Rattle.k_outcome.specs.Listed.{AreRoomsFor}
 use Rattle.k_locks.specs.declared.rooms.EndRooms.{EndRooms}
 use Rattle.k_locks.specs.Rooms.{AreEndRooms}
-use Rattle.k_opening.specs.Worlds.{AreFree, HoldsRun, IsFree}
+use Rattle.k_opening.specs.Worlds.{HoldsRun}
 
 -- there are processes, and few of them
 pub some_processes : (world : WorldValue) (setup : Setup) (ps : List Process) → ProcessesStand world ps → IsSetupOf setup world → 0 < length ps

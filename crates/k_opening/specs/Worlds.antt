@@ -1,10 +1,9 @@
 -- A run whose heaps and book stand behind locks.
-use Rattle.std.specs.Prelude.{◌≡◌, ℕ, List, None}
-use Rattle.std.specs.List.{All}
+use Rattle.std.specs.Prelude.{◌≡◌, ℕ, List}
 use Rattle.k_types.specs.declared.setup.Setup.{Setup}
 use Rattle.k_types.specs.Trace.{process_count, trace_of}
 use Rattle.k_trace.specs.Named.{DeclaredNames}
-use Rattle.k_turns.specs.Values.{IsPassOf, PassValue, TurnsValue}
+use Rattle.k_turns.specs.Values.{AreFree, PassValue, TurnsValue}
 use Rattle.k_outcome.specs.k_process.Worlds.{WorldValue}
 use Rattle.k_outcome.specs.Listed.{AreRoomsFor}
 use Rattle.k_locks.specs.declared.rooms.EndRooms.{EndRooms}
@@ -14,14 +13,6 @@ use Rattle.k_locks.specs.Rooms.{AreEndRooms}
 pub record RunValue : Type 0 where
   pub names : DeclaredNames
   pub setup : Setup
-
--- the pass is of the queue and holds no process
-abbrev pub IsFree : TurnsValue → PassValue → Type 0
-IsFree turns pass = IsPassOf turns pass × (pass.held ≡ None)
-
--- so it is of each pass
-abbrev pub AreFree : TurnsValue → List PassValue → Type 0
-AreFree turns passes = All (IsFree turns) passes
 
 -- there is a lock for each process and each shared heap of the trace, there are rooms to end the run and for what a report lists of it,
 -- the passes are free, and the setup is the trace's

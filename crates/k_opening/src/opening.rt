@@ -5,7 +5,8 @@ ghost use Rattle.k_outcome.specs.k_process.Standing.{AllStand};
 ghost use Rattle.k_still.specs.Opening.{IsSetupOf};
 ghost use Rattle.k_outcome.specs.Listed.{AreRoomsFor};
 ghost use Rattle.k_locks.specs.Rooms.{AreEndRooms, HasRoom};
-ghost use Rattle.k_opening.specs.Worlds.{AreFree, HoldsRun};
+ghost use Rattle.k_opening.specs.Worlds.{HoldsRun};
+ghost use Rattle.k_turns.specs.Values.{AreFree};
 ghost use Rattle.k_locks.specs.k_watch.Numbers.{numbers_of};
 ghost use Rattle.k_locks.specs.k_watch.Shown.{IsShown};
 

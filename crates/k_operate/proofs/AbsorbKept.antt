@@ -24,8 +24,8 @@ use Rattle.k_process.proofs.Telling.{tells}
 use Rattle.k_process.specs.k_cell.Holdings.{HoldingsValue}
 use Rattle.k_process.specs.SharedHeaps.{SharedRecord}
 use Rattle.k_shares.specs.Sharers.{is_orphan_by, lowest_orphan}
-use Rattle.k_steps.specs.Begun.{HasAppended}
-use Rattle.k_steps.specs.Absorbing.{CanAbsorb, HasAbsorbedHeap}
+use Rattle.k_collect.specs.Begun.{HasAppended}
+use Rattle.k_depart.specs.Absorbing.{CanAbsorb, HasAbsorbedHeap}
 use Rattle.k_process.specs.CommitStanding.{BookStands}
 use Rattle.k_process.specs.Keeping.{BookKeeps, CanGive, KernelKeeps, SharedKeeps, is_absorbed_in}
 use Rattle.k_process.specs.Rooms.{shared_exit_room}

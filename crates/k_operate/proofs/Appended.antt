@@ -34,7 +34,7 @@ use Rattle.k_bodies.specs.Bodies.{bodies_of}
 use Rattle.k_process.specs.k_book.Books.{BookRecord, pin_room_of}
 use Rattle.k_process.specs.k_heap.Heaps.{HeapRecord}
 use Rattle.k_process.specs.CommitStanding.{BookStands}
-use Rattle.k_steps.specs.Begun.{HasAppended}
+use Rattle.k_collect.specs.Begun.{HasAppended}
 use Rattle.k_process.specs.Keeping.{BookKeeps, CanGive, HasHeapRooms, HeapKeeps, operations_left}
 use Rattle.k_process.proofs.CanDo.{done_of}
 use Rattle.k_process.proofs.LockedKept.{drop_more}

@@ -24,13 +24,13 @@ use Rattle.k_bodies.specs.Bodies.{bodies_of}
 use Rattle.k_process.specs.k_book.Books.{BookRecord}
 use Rattle.k_process.specs.k_cell.Changes.{with_black_alone}
 use Rattle.k_process.specs.k_heap.Heaps.{HeapRecord, own_segment}
-use Rattle.k_steps.specs.Begun.{HasAppended, HasBegunHeap}
-use Rattle.k_steps.proofs.Sizes.{few_held}
-use Rattle.k_steps.specs.Collecting.{CanBeginHeap, CanEndHeap, HasFewObjects}
-use Rattle.k_steps.specs.Ended.{HasEndedHeap}
-use Rattle.k_steps.specs.Marking.{CanMark, HasMarkedOn}
-use Rattle.k_steps.specs.SweptAlone.{CanEndSwept, CanSweepAlone, HasSweptAlone}
-use Rattle.k_steps.proofs.Ends.{ended_since}
+use Rattle.k_collect.specs.Begun.{HasAppended, HasBegunHeap}
+use Rattle.k_collect.proofs.Sizes.{few_held}
+use Rattle.k_collect.specs.Collecting.{CanBeginHeap, CanEndHeap, HasFewObjects}
+use Rattle.k_collect.specs.Ended.{HasEndedHeap}
+use Rattle.k_collect.specs.Marking.{CanMark, HasMarkedOn}
+use Rattle.k_collect.specs.SweptAlone.{CanEndSwept, CanSweepAlone, HasSweptAlone}
+use Rattle.k_collect.proofs.Ends.{ended_since}
 use Rattle.k_process.specs.Keeping.{BookKeeps, CanGive, HasHeapRooms, operations_left}
 use Rattle.k_process.proofs.CanDo.{done_of, event_left, heap_stands}
 use Rattle.k_process.specs.declared.process.Process.{Process}

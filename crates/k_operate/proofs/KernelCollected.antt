@@ -16,13 +16,13 @@ use Rattle.k_process.specs.k_book.Books.{BookRecord}
 use Rattle.k_process.specs.k_cell.Changes.{with_black_alone}
 use Rattle.k_process.specs.k_cell.Holdings.{HoldingsValue}
 use Rattle.k_process.specs.k_heap.Heaps.{HeapRecord}
-use Rattle.k_steps.specs.Begun.{HasAppended, HasBegunKernel}
-use Rattle.k_steps.proofs.Sizes.{few_held}
-use Rattle.k_steps.specs.Collecting.{CanBeginKernel, CanEndKernel, HasFewObjects}
-use Rattle.k_steps.specs.Ended.{HasEndedKernel}
-use Rattle.k_steps.specs.Marking.{CanMark, HasMarkedOn}
-use Rattle.k_steps.specs.SweptAlone.{CanEndSweptKernel, CanSweepAlone}
-use Rattle.k_steps.proofs.Ends.{kernel_ended_since}
+use Rattle.k_collect.specs.Begun.{HasAppended, HasBegunKernel}
+use Rattle.k_collect.proofs.Sizes.{few_held}
+use Rattle.k_collect.specs.Collecting.{CanBeginKernel, CanEndKernel, HasFewObjects}
+use Rattle.k_collect.specs.Ended.{HasEndedKernel}
+use Rattle.k_collect.specs.Marking.{CanMark, HasMarkedOn}
+use Rattle.k_collect.specs.SweptAlone.{CanEndSweptKernel, CanSweepAlone}
+use Rattle.k_collect.proofs.Ends.{kernel_ended_since}
 use Rattle.k_process.specs.Keeping.{BookKeeps, CanGive, HasHeapRooms, operations_left}
 use Rattle.k_process.proofs.CanDo.{heap_stands}
 use Rattle.k_process.specs.declared.process.Process.{Process}

@@ -18,7 +18,7 @@ use Rattle.k_bodies.specs.Bodies.{bodies_of}
 use Rattle.k_process.specs.k_book.Books.{BookRecord}
 use Rattle.k_process.specs.k_cell.Holdings.{HoldingsValue}
 use Rattle.k_process.specs.k_heap.Heaps.{HeapRecord, has_ended_in, own_segment}
-use Rattle.k_steps.specs.Killing.{CanKill, HasKilled}
+use Rattle.k_depart.specs.Killing.{CanKill, HasKilled}
 use Rattle.k_process.specs.Keeping.{BookKeeps, CanGive, HeapKeeps, operations_left}
 use Rattle.k_process.proofs.CanDo.{event_left, heap_stands}
 use Rattle.k_moves.specs.Shown.{idle_part}
@@ -28,7 +28,7 @@ use Rattle.k_process.specs.Standing.{ComesNext}
 use Rattle.k_process.specs.Worlds.{WorldValue}
 use Rattle.k_squares.specs.Locals.{is_local_in}
 use Rattle.k_squares.specs.Touches.{ends_other_in, other_cells_in}
-use Rattle.k_steps.specs.Reaching.{CanReach}
+use Rattle.k_own.specs.Reaching.{CanReach}
 use Rattle.k_operate.specs.Adding.{AddsOperation, known_to}
 use Rattle.k_operate.specs.Collecting.{HasSameLeft}
 use Rattle.k_operate.specs.Killing.{CanEndOther, CanKillNow, HasDoneKill, known_to_both}

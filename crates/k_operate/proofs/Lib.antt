@@ -2,6 +2,7 @@ pub mod Added
 pub mod Published
 pub mod StepsKept
 pub mod Since
+pub mod Grown
 pub mod HeapsReached
 pub mod NextKept
 pub mod Appended
@@ -13,6 +14,6 @@ pub mod AbsorbKept
 pub mod Killed
 pub use Rattle.k_process.proofs.Written
 pub use Rattle.k_process.proofs.Looped
-pub use Rattle.k_steps.proofs.KernelBegins
+pub use Rattle.k_collect.proofs.KernelBegins
 pub use Rattle.k_process.proofs.CanDo
 pub use Rattle.k_process.proofs.Kept

@@ -19,7 +19,7 @@ use Rattle.k_process.specs.declared.process.Process.{Process}
 use Rattle.k_process.specs.Standing.{ComesNext, RestStands}
 use Rattle.k_process.specs.Worlds.{WorldValue}
 use Rattle.k_process.proofs.Kept.{shared_set}
-use Rattle.k_steps.specs.Reaching.{CanReach}
+use Rattle.k_own.specs.Reaching.{CanReach}
 use Rattle.k_operate.specs.Collecting.{IsNextAndSettled}
 use Rattle.k_operate.specs.Readiness.{IsReady, begins_or_ends}
 use Rattle.k_operate.specs.Steps.{CanDoInside, CanDoNext, CanDoWithKernel, CanDoWithShared, CanStepNext, HasDoneAlone, HasDoneInside, HasDoneNext, HasDoneWithKernel, HasDoneWithShared, HasPublishedAll, IsDueWith, PairStands}

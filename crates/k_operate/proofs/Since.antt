@@ -12,7 +12,7 @@ use Rattle.k_process.specs.k_heap.Heaps.{HeapRecord, has_ended_in}
 use Rattle.k_process.specs.Keeping.{operations_left}
 use Rattle.k_process.proofs.CanDo.{next_in_range}
 use Rattle.k_process.specs.declared.process.Process.{Process}
-use Rattle.k_steps.specs.Reaching.{CanReach}
+use Rattle.k_own.specs.Reaching.{CanReach}
 use Rattle.k_operate.specs.Readiness.{IsReady, begins_or_ends}
 use Rattle.k_process.specs.Standing.{ComesNext}
 use Rattle.k_operate.specs.Collecting.{IsNextAndSettled}

@@ -19,8 +19,8 @@ use Rattle.k_process.specs.k_local.Locals.{after_local, local_answer}
 use Rattle.k_process.specs.Beside.{HasSteppedWithKernel, HasSteppedWithShared}
 use Rattle.k_process.specs.Others.{shared_by}
 use Rattle.k_process.specs.Stepped.{HasStepped}
-use Rattle.k_steps.specs.Own.{CanStepOwn, is_collect}
-use Rattle.k_steps.specs.Operating.{CanStepWithKernel, CanStepWithShared, collects_or_exits}
+use Rattle.k_own.specs.Own.{CanStepOwn, is_collect}
+use Rattle.k_pair.specs.Operating.{CanStepWithKernel, CanStepWithShared, collects_or_exits}
 use Rattle.k_bounds.specs.Counts.{allocates_in}
 use Rattle.k_process.proofs.CanDo.{can_operate, can_operate_with_kernel, can_operate_with_shared}
 use Rattle.k_process.proofs.LockedKept.{book_keeps, heap_keeps, kernel_keeps, left_now, shared_keeps}

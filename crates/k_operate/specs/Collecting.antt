@@ -16,7 +16,7 @@ use Rattle.k_process.specs.k_book.Books.{BookRecord}
 use Rattle.k_process.specs.k_cell.Holdings.{HoldingsValue}
 use Rattle.k_process.specs.k_heap.Heaps.{HeapRecord, own_segment}
 use Rattle.k_shares.specs.Sharers.{lowest_orphan}
-use Rattle.k_steps.specs.SweptAlone.{HasSweptAlone, KernelHasSweptAlone}
+use Rattle.k_collect.specs.SweptAlone.{HasSweptAlone, KernelHasSweptAlone}
 use Rattle.k_process.specs.Keeping.{BookKeeps, CanGive, KernelKeeps, operations_left}
 use Rattle.k_process.specs.declared.process.Process.{Process}
 use Rattle.k_process.specs.Standing.{ComesNext, HasDone}

@@ -9,8 +9,8 @@ ghost use Rattle.k_types.specs.declared.op.Op.TheVariants.{KCollect};
 use crate::collecting::{
     begin_kernel_collection, end_kernel_collection, mark_kernel_collection, sweep_kernel_collection,
 };
+use k_depart::absorb;
 use k_process::{Book, KernelCell, Process, SharedCell};
-use k_steps::absorb;
 
 /// The kernel absorbs the shared heap, the orphan of the lowest number. The cost is in proportion to the exit items of the heap
 /// and of the kernel.

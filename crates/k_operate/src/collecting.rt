@@ -10,12 +10,12 @@ ghost use Rattle.k_process.specs.Worlds.{WorldValue};
 ghost use Rattle.k_types.specs.declared.names.CellPhase.TheVariants.{Begun, Marked};
 ghost use Rattle.k_types.specs.declared.op.Op.TheVariants.{Collect};
 
-use k_mark::Swept;
-use k_process::{Book, KernelCell, Process};
-use k_steps::{
+use k_collect::{
     begin_heap, begin_kernel, end_swept_heap, end_swept_kernel, mark_heap, mark_kernel, sweep_heap,
     sweep_kernel,
 };
+use k_mark::Swept;
+use k_process::{Book, KernelCell, Process};
 
 /// Does the operation `collect`, with which the collection of the process's heap begins. The cost is in proportion to the exit items
 /// of the heap and to its entered and pinned objects.

@@ -21,11 +21,14 @@ pub use collecting::{
     mark_collection, mark_kernel_collection, sweep_collection, sweep_kernel_collection,
 };
 pub use exiting::do_exit;
-pub use k_process::{Heaps, Process, local, next};
-pub use k_steps::{
-    Reach, absorb, begin_heap, begin_kernel, close_kernel, end_heap, end_heap_listing, end_kernel,
-    end_kernel_listing, exit, kill, mark_heap, mark_kernel, meet_heap, meet_kernel, meet_shared,
-    publish, reach, settle_heap, settle_kernel, step_kernel, step_own, step_shared,
+pub use k_collect::{
+    begin_heap, begin_kernel, close_kernel, end_heap, end_heap_listing, end_kernel,
+    end_kernel_listing, mark_heap, mark_kernel, meet_heap, meet_kernel, meet_shared, settle_heap,
+    settle_kernel,
 };
+pub use k_depart::{absorb, exit, kill};
+pub use k_own::{Reach, publish, reach, step_own};
+pub use k_pair::{step_kernel, step_shared};
+pub use k_process::{Heaps, Process, local, next};
 pub use killing::do_kill;
 pub use stepping::{do_alone, do_inside, do_next, do_with_kernel, do_with_shared, publish_all};

@@ -7,8 +7,9 @@ use crate::absorbing::do_collect_kernel;
 use crate::collecting::do_collect;
 use crate::exiting::do_exit;
 use crate::known::{know_entries, know_exits, know_kernel_exits, know_shared_exits};
+use k_own::{Reach, publish, reach, step_own};
+use k_pair::{step_kernel, step_shared};
 use k_process::{Book, KernelCell, Process, SharedCell, local};
-use k_steps::{Reach, publish, reach, step_kernel, step_own, step_shared};
 use k_types::Op;
 
 /// Does the operation inside the process's own heap, if it needs that heap alone, and says whether it did. Its event is then

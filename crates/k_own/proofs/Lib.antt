@@ -1,3 +1,5 @@
+pub mod Told
+pub mod Once
 pub mod Due
 pub mod Away
 pub mod Across

@@ -1,4 +1,5 @@
 pub mod Own
+pub mod Reaching
 pub mod Elsewhere
 pub use Rattle.k_commit.specs.Met
 pub use Rattle.k_commit.specs.Standing

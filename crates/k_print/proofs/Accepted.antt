@@ -11,7 +11,7 @@ use Rattle.k_text.specs.Report.{report_text, text_over}
 use Rattle.k_text.proofs.Setups.{setup_alone}
 use Rattle.k_history.specs.Good.{IsGoodReport}
 use Rattle.k_history.proofs.Refusals.{good_is_not_refused}
-use Rattle.k_reports.specs.Verdicts.{IsAccepted}
+use Rattle.k_history.specs.Verdicts.{IsAccepted}
 use Rattle.k_reports.proofs.Spelled.{all_spelled}
 use Rattle.k_solo.proofs.Lines.{setup_rules}
 use Rattle.k_state.specs.Setups.{AreSetupRules, setup_of}

@@ -12,7 +12,7 @@ use Rattle.k_words.specs.Words.{Text}
 use Rattle.k_trace.specs.Named.{DeclaredNames, NamedTrace}
 use Rattle.k_trace.specs.Rules.{IsTrace, Spells}
 use Rattle.k_trace.specs.Spelling.{text}
-use Rattle.k_reports.specs.Verdicts.{IsAccepted}
+use Rattle.k_history.specs.Verdicts.{IsAccepted}
 use Rattle.k_text.specs.Report.{report_text}
 use Rattle.k_spell.specs.Spelled.{AreSpelled, is_spelled_event}
 use Rattle.k_state.specs.Setups.{setup_of}

@@ -1,7 +1,7 @@
 //! A journal, ready to be printed.
 ghost use Rattle.std.specs.Prelude.{◌≡◌, IfErr, IfOk};
 ghost use Rattle.k_io.specs.Writing.{Writes};
-ghost use Rattle.k_reports.specs.Verdicts.{IsAccepted};
+ghost use Rattle.k_history.specs.Verdicts.{IsAccepted};
 ghost use Rattle.k_trace.specs.Rules.{IsTrace};
 ghost use Rattle.k_trace.specs.Spelling.{text};
 ghost use Rattle.k_print.specs.Printed.{AreTexts, IsJournal, IsNotPrinted, journal_of, named_done, report_of};

@@ -1,2 +1,17 @@
+pub mod Parted
+pub mod Segments
+pub mod DoneLines
+pub mod SpelledOps
+pub mod Options
+pub mod SpelledWords
+pub mod SpelledFaults
+pub mod SpelledReplies
+pub mod OpWords
+pub mod SpelledEvents
+pub mod Visible
+pub mod ReportLines
+pub mod Proper
+pub mod Begun
+pub mod KnownEvents
 pub mod Ranged
 pub mod Spelled

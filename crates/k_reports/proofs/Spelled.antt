@@ -16,10 +16,10 @@ use Rattle.k_known.specs.Fits.{AreKnownEvents, HasFewFields, NumbersFit, IsSpell
 use Rattle.k_known.proofs.Laws.{ended_collections_are_bounded, events_are_known, numbers_fit}
 use Rattle.k_trace.specs.Named.{NamedTrace}
 use Rattle.k_trace.specs.Rules.{IsTrace}
-use Rattle.k_history.specs.Good.{AreAllSpelled, IsBegun}
-use Rattle.k_history.specs.Spelled.{IsInRange, IsReplyInRange, IsSpelledEvent}
-use Rattle.k_history.proofs.Begun.{begun_front}
-use Rattle.k_history.proofs.KnownEvents.{known_event}
+use Rattle.k_reports.specs.Begun.{AreAllSpelled, IsBegun}
+use Rattle.k_reports.specs.Spelled.{IsInRange, IsReplyInRange, IsSpelledEvent}
+use Rattle.k_reports.proofs.Begun.{begun_front}
+use Rattle.k_reports.proofs.KnownEvents.{known_event}
 use Rattle.k_reports.proofs.Ranged.{reply_ranged, serials_low}
 
 stores_low : (history : List Event) → store_count history ≤ operation_count history

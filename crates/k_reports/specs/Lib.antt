@@ -1,1 +1,4 @@
-pub mod Verdicts
+pub mod Spelled
+pub mod Reading
+pub mod Histories
+pub mod Begun

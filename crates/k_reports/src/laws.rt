@@ -1,15 +1,13 @@
 //! Laws of reports over all traces.
-ghost use Rattle.std.specs.Prelude.{◌≡◌, ◌⊎◌, ℕ, List, Ok};
+ghost use Rattle.std.specs.Prelude.{◌≡◌, List, Ok};
 ghost use Rattle.k_types.specs.declared.event.Event.{Event};
 ghost use Rattle.k_types.specs.Steps.{IsLegalHistory};
 ghost use Rattle.k_types.specs.Complete.{IsComplete};
-ghost use Rattle.k_words.specs.Words.{Text};
 ghost use Rattle.k_trace.specs.Named.{NamedTrace};
 ghost use Rattle.k_trace.specs.Rules.{IsTrace};
 ghost use Rattle.k_text.specs.Report.{report_text};
-ghost use Rattle.k_history.specs.Good.{IsBegun, AreAllSpelled};
-ghost use Rattle.k_history.specs.Histories.{history_of};
-ghost use Rattle.k_reports.specs.Verdicts.{IsAccepted, IsRefused};
+ghost use Rattle.k_reports.specs.Begun.{IsBegun, AreAllSpelled};
+ghost use Rattle.k_reports.specs.Histories.{history_of};
 
 /// Each event of a history that is begun is one that a line can spell: it names what the trace declares, serials and counts are
 /// below 2^32, and bytes and values below 2^64.
@@ -26,9 +24,4 @@ pub fn reports_tell_their_history()
         IsComplete t.trace history → history_of t.names (report_text t.names t.trace history) ≡ Ok history }
     ensures alone { (t : NamedTrace) (history other : List Event) → IsTrace t → IsBegun t.trace history →
         IsBegun t.trace other → report_text t.names t.trace history ≡ report_text t.names t.trace other → history ≡ other }
-{}
-
-/// Of each report exactly one holds: it is good and refused at no line, or it is not good and refused at one line alone.
-pub fn reports_are_good_or_refused()
-    ensures { (t : NamedTrace) (report : Text) → IsTrace t → IsAccepted t report ⊎ ((n : ℕ) × IsRefused t report n) }
 {}

@@ -1,8 +1,9 @@
-//! What a report tells, for every trace: its history, and whether it is good. Each law is the contract of a public function
-//! with an empty body. Below stand `k_known`, which says what a legal history names and how large its numbers can be, and
-//! `k_history`, which reads reports and says which of them are good.
+//! What a report tells, for every trace: the line of each event, what is read of lines, and the history that a report's bytes are.
+//!
+//! Each law is the contract of a public function with an empty body. Below stands `k_known`, which says what a legal history names and
+//! how large its numbers can be. The functions that read reports, and what a good report is, stand above (`k_history`).
 #![tactic(auto)]
 
 mod laws;
 
-pub use laws::{histories_can_be_spelled, reports_are_good_or_refused, reports_tell_their_history};
+pub use laws::{histories_can_be_spelled, reports_tell_their_history};

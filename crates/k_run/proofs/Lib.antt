@@ -1,5 +1,6 @@
 pub mod Ended
 pub mod Told
 pub mod Replayed
-pub mod Watched
+pub mod Pens
+pub use Rattle.k_opening.proofs.SampleLists
 pub use Rattle.k_opening.proofs.Setups

@@ -1,5 +1,4 @@
 pub mod Runs
-pub mod Watched
 pub mod Opened
 pub use Rattle.k_opening.specs as k_opening
 pub use Rattle.k_opening.specs.Stills

@@ -8,16 +8,14 @@
 
 mod replaying;
 mod running;
-mod watching;
 mod whole;
 mod world;
 
 pub use k_opening::{
-    LockedBook, LockedKernel, LockedProcess, LockedShared, Outcome, Process, Sample, Still, World,
-    WorldName, open, open_still, open_watched,
+    Book, LockedBook, LockedKernel, LockedProcess, LockedShared, Outcome, Process, Sample, Still,
+    WatchPen, Watcher, World, WorldName, empty_list, make, open, open_still, open_watched,
 };
 pub use replaying::replay;
 pub use running::run;
-pub use watching::watch_trace;
 pub use whole::{replay_trace, run_trace};
 pub use world::{finish, finish_watched};

@@ -23,6 +23,6 @@ pub fn replay(still: Still) -> Outcome
         order,
         mut heaps,
     } = cells;
-    k_worker::replay(&mut heaps, &order);
+    k_complete::replay(&mut heaps, &order);
     outcome_of(names, setup, heaps, rooms)
 }

@@ -9,11 +9,11 @@ ghost use Rattle.k_setup.specs.Setups.{setup_of};
 ghost use Rattle.k_types.specs.Trace.{process_count};
 ghost use Rattle.k_opening.specs.k_locks.k_watch.Shown.{HasWatched, WasShown};
 
+use k_complete::end_all;
 use k_opening::{
     EndRooms, Heaps, Locks, Outcome, Sample, WatchPen, Watcher, World, WorldName, outcome_of,
     show_end, unlock_all,
 };
-use k_worker::end_all;
 use std::sync::Wait;
 
 /// Ends the run of the heaps behind the locks: what is left of each process is done, one process after the other, and each cell meets the

@@ -13,6 +13,9 @@ mod words;
 
 pub use command_line::program;
 pub use gathering::gathered_call;
-pub use k_run::{Outcome, Sample, replay_trace, run_trace, watch_trace};
+pub use k_run::{
+    Book, Outcome, Sample, Still, WatchPen, Watcher, World, WorldName, empty_list, finish_watched,
+    make, open_still, open_watched, replay_trace, run, run_trace,
+};
 pub use running::{replay_file, replay_source, run_file, tell_end};
 pub use words::{Order, order_of, runner};

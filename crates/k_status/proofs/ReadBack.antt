@@ -6,8 +6,8 @@ use Rattle.k_types.specs.Steps.{IsLegalHistory, state_after}
 use Rattle.k_trace.specs.Named.{NamedTrace}
 use Rattle.k_trace.specs.Rules.{IsTrace}
 use Rattle.k_text.specs.Report.{report_text}
-use Rattle.k_history.proofs.Refusals.{proper}
-use Rattle.k_history.proofs.ReportLines.{history_of_text}
+use Rattle.k_reports.proofs.Proper.{proper}
+use Rattle.k_reports.proofs.ReportLines.{history_of_text}
 use Rattle.k_reports.proofs.Spelled.{all_spelled}
 use Rattle.k_laws.proofs.Laws.{collections_free_nothing_live}
 use Rattle.k_order.proofs.Laws.{ended_histories_leave_what_the_directory_reaches}

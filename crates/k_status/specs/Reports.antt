@@ -15,7 +15,7 @@ use Rattle.k_order.specs.Reclaimed.{IsReclaimed}
 use Rattle.k_words.specs.Words.{Text}
 use Rattle.k_trace.specs.Named.{NamedTrace}
 use Rattle.k_text.specs.Report.{report_text}
-use Rattle.k_history.specs.Histories.{history_of}
+use Rattle.k_reports.specs.Histories.{history_of}
 
 -- No end of a collection in the history frees an object that a living process's register, the directory or a live shared heap
 -- reaches just before it.

@@ -1,5 +1,3 @@
-pub mod Told
-pub mod Once
 pub use Rattle.k_collect.proofs.Ends
 pub use Rattle.k_collect.proofs.KernelBegins
 pub use Rattle.k_collect.proofs.Sizes

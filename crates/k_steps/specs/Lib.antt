@@ -1,4 +1,5 @@
-pub mod Reaching
+pub use Rattle.k_own.specs.Reaching
+pub use Rattle.k_own.specs.declared.reached.Reach
 pub use Rattle.k_pair.specs.Operating
 pub use Rattle.k_own.specs.Own
 pub use Rattle.k_depart.specs.Absorbing

@@ -11,18 +11,11 @@
 //! touches its cells and meets again. No call takes memory.
 #![tactic(auto)]
 
-mod laws;
-mod reached;
-mod reaching;
-
 pub use k_collect::{
     begin_heap, begin_kernel, close_kernel, end_heap, end_heap_listing, end_kernel,
     end_kernel_listing, end_swept_heap, end_swept_kernel, mark_heap, mark_kernel, meet_heap,
     meet_kernel, meet_shared, settle_heap, settle_kernel, sweep_heap, sweep_kernel,
 };
 pub use k_depart::{absorb, exit, kill};
-pub use k_own::{publish, step_own};
+pub use k_own::{Reach, ends_are_told_once, publish, reach, reached_cells_are_touched, step_own};
 pub use k_pair::{step_kernel, step_shared};
-pub use laws::{ends_are_told_once, reached_cells_are_touched};
-pub use reached::Reach;
-pub use reaching::reach;

@@ -1,3 +1,4 @@
+pub mod WatchedRuns
 pub mod Runs
 pub mod Scripts
 pub mod Snaps

@@ -5,7 +5,7 @@ use Rattle.k_types.specs.Steps.{IsLegalHistory}
 use Rattle.k_types.specs.Trace.{Trace}
 use Rattle.k_trace.specs.Named.{DeclaredNames, NamedTrace}
 use Rattle.k_trace.specs.Rules.{IsTrace}
-use Rattle.k_answers.specs.Good.{IsBegun}
+use Rattle.k_answers.specs.Begun.{IsBegun}
 use Rattle.k_answers.proofs.Rooms.{few_events}
 use Rattle.k_runner.specs.k_run.k_outcome.Ends.{EndValue, IsEnd, journal_of}
 use Rattle.k_runner.specs.k_run.Runs.{IsRunOf}

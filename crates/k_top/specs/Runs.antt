@@ -3,7 +3,7 @@ use Rattle.std.specs.Prelude.{◌≡◌, ℕ, ◌≤◌, List, length}
 use Rattle.k_trace.specs.Named.{NamedTrace}
 use Rattle.k_runner.specs.k_run.k_outcome.Ends.{EndValue, journal_of}
 use Rattle.k_runner.specs.k_run.Runs.{IsRunOf}
-use Rattle.k_runner.specs.k_run.Watched.{IsWatchedRunOf}
+use Rattle.k_top.specs.Watched.{IsWatchedRunOf}
 use Rattle.k_runner.specs.k_run.k_watch.declared.sample.Sample.{Sample}
 use Rattle.k_answers.specs.k_work.Crediting.{AreSmall}
 use Rattle.k_answers.specs.k_work.Tables.{Work, work_of}

@@ -11,10 +11,11 @@ ghost use Rattle.k_answers.specs.Samples.{samples_text};
 ghost use Rattle.k_runner.specs.Runs.{IsNamedEnd};
 ghost use Rattle.k_top.specs.Runs.{HasWatchedRun};
 
+use crate::watched::watch_trace;
 use k_answers::write_samples;
 use k_io::{Gate, Sink, Source, WriteFailed};
 use k_report::report;
-use k_runner::{Outcome, Sample, tell_end, watch_trace};
+use k_runner::{Outcome, Sample, tell_end};
 use k_status::{RunError, Status, after_writing, trace_of};
 use std::alloc::Global;
 use std::sync::Wait;

@@ -10,10 +10,10 @@ use Rattle.k_types.specs.Trace.{Trace}
 use Rattle.k_locks.specs.k_process.k_book.Books.{BookRecord}
 use Rattle.k_locks.specs.k_process.declared.process.Process.{Process}
 use Rattle.k_locks.specs.k_process.Worlds.{WorldValue}
-use Rattle.k_complete.specs.Adding.{AddsEnd, AddsOne, AddsOperation, known_to}
-use Rattle.k_complete.specs.Killing.{known_to_both}
-use Rattle.k_complete.specs.Steps.{HasPublishedAll}
-use Rattle.k_complete.proofs.Grown.{prefix_by, prefix_trans}
+use Rattle.k_operate.specs.Adding.{AddsEnd, AddsOne, AddsOperation, known_to}
+use Rattle.k_operate.specs.Killing.{known_to_both}
+use Rattle.k_operate.specs.Steps.{HasPublishedAll}
+use Rattle.k_operate.proofs.Grown.{prefix_by, prefix_trans}
 
 pub published_grows : (world : WorldValue) (q r : Process) (a b : BookRecord) → HasPublishedAll world q r a b → IsPrefixOf a.journal.list b.journal.list
 published_grows world q r a b t = prefix_by a.journal.list b.journal.list q.cell.value.tail t.journal

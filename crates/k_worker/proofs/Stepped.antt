@@ -18,10 +18,10 @@ use Rattle.k_locks.specs.k_process.Keeping.{operations_left}
 use Rattle.k_locks.specs.k_process.declared.process.Process.{Process}
 use Rattle.k_locks.specs.k_process.Standing.{ComesNext, HasDone, IsNextOf}
 use Rattle.k_locks.specs.k_process.Worlds.{WorldValue}
-use Rattle.k_complete.specs.Readiness.{IsOutside, begins_or_ends}
-use Rattle.k_complete.specs.Steps.{HasDoneInside, HasPublishedAll, PairStands}
-use Rattle.k_complete.specs.Collecting.{HasSameLeft, IsNextAndSettled}
-use Rattle.k_complete.proofs.Since.{next_since, ready_since}
+use Rattle.k_operate.specs.Readiness.{IsOutside, begins_or_ends}
+use Rattle.k_operate.specs.Steps.{HasDoneInside, HasPublishedAll, PairStands}
+use Rattle.k_operate.specs.Collecting.{HasSameLeft, IsNextAndSettled}
+use Rattle.k_operate.proofs.Since.{next_since, ready_since}
 use Rattle.k_worker.specs.declared.turns.Turn.{Turn}
 use Rattle.k_worker.specs.declared.turns.Turn.TheVariants.{Done, Over, Kills}
 use Rattle.k_worker.specs.Running.{HasDoneBeside, HasDoneUnless, HasTakenTurn, IsLeft, IsReadyBeside}

@@ -1,2 +1,1 @@
 pub mod Running
-pub use Rattle.k_complete.specs.Replaying

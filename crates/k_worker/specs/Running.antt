@@ -15,12 +15,12 @@ use Rattle.k_locks.specs.k_process.k_book.Books.{BookRecord}
 use Rattle.k_locks.specs.k_process.k_heap.Heaps.{HeapRecord}
 use Rattle.k_locks.specs.k_process.k_cell.Holdings.{HoldingsValue}
 use Rattle.k_locks.specs.k_process.Keeping.{BookKeeps, KernelKeeps}
-use Rattle.k_complete.specs.Reach.{Reach}
-use Rattle.k_complete.specs.Reach.TheVariants.{Own, Kernel, Shared, End}
+use Rattle.k_operate.specs.Reach.{Reach}
+use Rattle.k_operate.specs.Reach.TheVariants.{Own, Kernel, Shared, End}
 use Rattle.k_worker.specs.declared.turns.Turn.{Turn}
 use Rattle.k_worker.specs.declared.turns.Turn.TheVariants.{Done, Over, Kills}
-use Rattle.k_complete.specs.Readiness.{IsOutside, IsReady}
-use Rattle.k_complete.specs.Collecting.{HasSameLeft, KernelCollects}
+use Rattle.k_operate.specs.Readiness.{IsOutside, IsReady}
+use Rattle.k_operate.specs.Collecting.{HasSameLeft, KernelCollects}
 use Rattle.k_locks.specs.k_process.Standing.{ComesNext, HasDone}
 use Rattle.k_locks.specs.k_process.Worlds.{WorldValue}
 

@@ -1,28 +1,27 @@
 //! Collections, absorptions and ends of processes under locks. While a heap is marked and swept its lock is held, and the book is free.
 ghost use Rattle.std.specs.Prelude.{IsFalse, IsTrue, ◌≡◌};
 ghost use Rattle.k_locks.specs.k_process.Keeping.{KernelKeeps};
-ghost use Rattle.k_complete.specs.Collecting.{Collects, CollectsSwept, HasSameLeft, KernelCollectsSwept};
+ghost use Rattle.k_operate.specs.Collecting.{Collects, CollectsSwept, HasSameLeft, KernelCollectsSwept};
 ghost use Rattle.k_locks.specs.k_process.Standing.{ComesNext, HasDone, ProcessStands};
 ghost use Rattle.k_worker.specs.Running.{HasBegunUnless, HasCollectedUnless, IsAbsorbedIfFirst, IsLeft};
 ghost use Rattle.k_types.specs.declared.names.CellPhase.TheVariants.{Begun};
 ghost use Rattle.k_types.specs.declared.op.Op.TheVariants.{Collect, Exit, KCollect, Kill};
 
-use crate::ordering::{
-    HoldsKernel, HoldsProcess, lock_book, lock_kernel, lock_shared, mark_collection,
-    mark_kernel_collection, sweep_collection, sweep_kernel_collection,
+use crate::marking::{
+    mark_collection, mark_kernel_collection, sweep_collection, sweep_kernel_collection,
 };
 use crate::stepping::tell;
 use crate::stretching::follow;
-use k_complete::{
+use k_io::{Gate, GatePlace};
+use k_locks::{
+    HoldsKernel, HoldsProcess, KernelCell, LockedBook, LockedKernel, LockedProcess, LockedShared,
+    Locks, Process, WorldName, lock_book, lock_kernel, lock_shared, show,
+};
+use k_mark::Swept;
+use k_operate::{
     absorb_orphan, begin_collection, begin_kernel_collection, do_exit, do_kill, end_collection,
     end_kernel_collection, publish_all,
 };
-use k_io::{Gate, GatePlace};
-use k_locks::{
-    KernelCell, LockedBook, LockedKernel, LockedProcess, LockedShared, Locks, Process, WorldName,
-    show,
-};
-use k_mark::Swept;
 use k_types::{Op, SharedId};
 use std::sync::{Mutex, Wait};
 

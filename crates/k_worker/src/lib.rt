@@ -5,13 +5,12 @@
 #![tactic(auto)]
 
 mod collecting;
-mod ordering;
+mod marking;
 mod stepping;
 mod stretching;
 mod turning;
 mod turns;
 
-pub use k_complete::{end_all, replay};
-pub use ordering::HoldsNone;
+pub use k_locks::HoldsNone;
 pub use stepping::told;
 pub use turning::{done_behind, turn_behind};

@@ -1,13 +1,13 @@
 //! The next operation of a process whose lock is held.
 ghost use Rattle.std.specs.Prelude.{IsFalse};
 ghost use Rattle.k_locks.specs.k_process.Standing.{ComesNext};
-ghost use Rattle.k_complete.specs.Readiness.{IsOutside, IsReady, begins_or_ends};
+ghost use Rattle.k_operate.specs.Readiness.{IsOutside, IsReady, begins_or_ends};
 ghost use Rattle.k_worker.specs.Running.{HasDoneBeside, HasDoneUnless, IsReadyFor};
 ghost use Rattle.k_types.specs.declared.names.Heap.TheVariants.{Kernel, Shared};
 
-use k_complete::{Reach, do_alone, do_with_kernel, do_with_shared, publish_all, reach};
 use k_io::{Gate, GatePlace};
 use k_locks::{LockedBook, LockedKernel, LockedProcess, LockedShared, Process, WorldName, show};
+use k_operate::{Reach, do_alone, do_with_kernel, do_with_shared, publish_all, reach};
 use k_types::Op;
 use std::sync::Wait;
 
@@ -26,7 +26,7 @@ pub(crate) fn do_inside<W: WorldName>(process: &mut LockedProcess<W>, op: &Op) -
     requires { ComesNext W.world.trace process.old op.now }
     ensures { HasDoneUnless W.world.trace op.now process.old process.new result }
 {
-    k_complete::do_inside(&mut process.process, op)
+    k_operate::do_inside(&mut process.process, op)
 }
 
 /// Publishes what was done inside the heap, and does the operation if it touches the process's own cell alone. It answers what the

@@ -1,13 +1,12 @@
 //! Operations that follow one another under one hold of the book.
 ghost use Rattle.std.specs.Prelude.{IsFalse};
-ghost use Rattle.k_complete.specs.Readiness.{begins_or_ends};
+ghost use Rattle.k_operate.specs.Readiness.{begins_or_ends};
 ghost use Rattle.k_locks.specs.k_process.Standing.{ComesNext};
 
-use crate::ordering::try_kernel;
 use crate::stepping::{do_inside, do_under_book, do_under_kernel};
-use k_complete::Reach;
 use k_io::Gate;
-use k_locks::{LockedBook, LockedProcess, Locks, WorldName};
+use k_locks::{LockedBook, LockedProcess, Locks, WorldName, try_kernel};
+use k_operate::Reach;
 use k_types::Op;
 use std::sync::Wait;
 

@@ -1,20 +1,20 @@
 //! The next operation of a process, under the locks that it needs: each takes those of its process's heap, the kernel's, a shared heap's
 //! and the book's in this order, as far as it needs them. A kill takes the locks of two processes' heaps, that of the lower number first.
 ghost use Rattle.std.specs.Prelude.{IsFalse};
-ghost use Rattle.k_complete.specs.Readiness.{begins_or_ends};
+ghost use Rattle.k_operate.specs.Readiness.{begins_or_ends};
 ghost use Rattle.k_locks.specs.k_process.Standing.{ComesNext};
 ghost use Rattle.k_worker.specs.Running.{HasKilledUnless, HasTakenTurn};
 
 use crate::collecting::{collect, collect_kernel, exit, go_on, kill};
-use crate::ordering::{
-    HoldsNone, HoldsProcess, lock_book, lock_kernel, lock_process, lock_shared, lock_two,
-};
 use crate::stepping::{do_inside, do_under_book, do_under_kernel, do_under_shared};
 use crate::stretching::go_inside;
 use crate::turns::Turn;
-use k_complete::Reach;
 use k_io::Gate;
-use k_locks::{LockedProcess, Locks, WorldName};
+use k_locks::{
+    HoldsNone, HoldsProcess, LockedProcess, Locks, WorldName, lock_book, lock_kernel, lock_process,
+    lock_shared, lock_two,
+};
+use k_operate::Reach;
 use k_types::{Op, Pid};
 use std::sync::{Mutex, Wait};
 

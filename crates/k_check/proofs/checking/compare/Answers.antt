@@ -4,7 +4,7 @@ use Rattle.k_text.specs.Report.{text_over, report_text}
 use Rattle.k_trace.specs.Meaning.{meaning_of}
 use Rattle.k_trace.specs.Named.{NamedTrace}
 use Rattle.k_history.specs.Difference.{difference}
-use Rattle.k_reports.specs.Verdicts.{IsAccepted, IsRefused}
+use Rattle.k_history.specs.Verdicts.{IsAccepted, IsRefused}
 use Rattle.k_check.proofs.Outcomes.{same_report, other_report, written}
 use Rattle.k_check.proofs.checking.compare.Goals as goal
 

@@ -2,8 +2,8 @@ use Rattle.std.proofs.Common.{◌≡◌, ◌∙◌, ◌++◌, ◌∷◌, [], ref
 use Rattle.k_words.specs.Words.{Text, words_of}
 use Rattle.k_trace.specs.Named.{DeclaredNames, NamedTrace}
 use Rattle.k_trace.specs.Rules.{IsTrace}
-use Rattle.k_history.specs.Reading.{event_of}
-use Rattle.k_history.specs.Good.{IsBegun}
+use Rattle.k_reports.specs.Reading.{event_of}
+use Rattle.k_reports.specs.Begun.{IsBegun}
 use Rattle.k_check.proofs.LinesRead.{begins, no_event_line, wrong_event_line, one_more}
 use Rattle.k_check.proofs.lines.read_events.Goals as goal
 

@@ -1,7 +1,7 @@
 use Rattle.std.proofs.Common.{◌<◌, sym, ◌∙◌, subst, arith, rules}
 use Rattle.std.proofs.lemmas.Option.{slice_get_within}
 use Rattle.k_operate.specs.k_process.Heaps.{value_of}
-use Rattle.k_complete.proofs.Grown.{prefix_trans}
+use Rattle.k_operate.proofs.Grown.{prefix_trans}
 use Rattle.k_complete.proofs.PlacedKept.{through_next}
 use Rattle.k_complete.proofs.ending.complete_all.Goals as goal
 use Rattle.k_tie.proofs.RuleKept.{prefix_all}

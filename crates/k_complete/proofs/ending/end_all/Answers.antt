@@ -3,7 +3,7 @@ use Rattle.k_types.specs.Complete.{IsPrefixOf}
 use Rattle.k_book.specs.Books.{BookRecord}
 use Rattle.k_operate.specs.k_process.Heaps.{value_of}
 use Rattle.k_complete.proofs.EndKept.{all_closed, all_met}
-use Rattle.k_complete.proofs.Grown.{prefix_by, prefix_trans}
+use Rattle.k_operate.proofs.Grown.{prefix_by, prefix_trans}
 use Rattle.k_complete.proofs.ending.end_all.Goals as goal
 
 pub close_all-requires : goal.close_all-requires

@@ -1,4 +1,4 @@
-use Rattle.k_history.proofs.DoneLines.{one_sided, no_operation}
+use Rattle.k_reports.proofs.DoneLines.{one_sided, no_operation}
 use Rattle.k_history.proofs.events.read_done.Goals as goal
 
 pub returns-in_default : goal.returns-in_default

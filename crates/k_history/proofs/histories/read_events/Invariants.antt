@@ -1,6 +1,6 @@
 use Rattle.std.proofs.Common.{◌≡◌, ◌+◌, ◌≤◌, length}
 use Rattle.k_words.specs.Words.{lines_of}
-use Rattle.k_history.specs.Histories.{events_of_lines}
+use Rattle.k_reports.specs.Histories.{events_of_lines}
 use Rattle.k_history.proofs.Lines.{onto_all}
 use Rattle.k_history.proofs.histories.read_events.Given as goal
 

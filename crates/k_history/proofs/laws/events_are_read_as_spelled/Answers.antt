@@ -1,6 +1,6 @@
 use Rattle.std.proofs.Common.{◌∙◌, sym, ap}
-use Rattle.k_history.specs.Reading.{event_of}
-use Rattle.k_history.proofs.SpelledEvents.{read_event_words, event_words_read}
+use Rattle.k_reports.specs.Reading.{event_of}
+use Rattle.k_reports.proofs.SpelledEvents.{read_event_words, event_words_read}
 use Rattle.k_history.proofs.laws.events_are_read_as_spelled.Goals as goal
 
 pub returns : goal.returns

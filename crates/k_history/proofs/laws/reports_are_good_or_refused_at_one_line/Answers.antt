@@ -1,4 +1,5 @@
-use Rattle.k_history.proofs.Refusals.{proper, one_line, good_is_not_refused}
+use Rattle.k_history.proofs.Refusals.{one_line, good_is_not_refused}
+use Rattle.k_reports.proofs.Proper.{proper}
 use Rattle.k_history.proofs.Verdicts.{verdict}
 use Rattle.k_history.proofs.laws.reports_are_good_or_refused_at_one_line.Goals as goal
 

@@ -1,6 +1,6 @@
 use Rattle.k_types.specs.Steps.{state_after}
-use Rattle.k_history.proofs.ReportLines.{history_of_text}
-use Rattle.k_history.proofs.Refusals.{proper}
+use Rattle.k_reports.proofs.ReportLines.{history_of_text}
+use Rattle.k_reports.proofs.Proper.{proper}
 use Rattle.k_history.proofs.laws.reports_tell_their_history.Goals as goal
 
 pub returns : goal.returns

@@ -1,5 +1,5 @@
 use Rattle.std.proofs.Common.{◌∙◌, sym}
-use Rattle.k_history.proofs.Segments.{proc_segment, shared_segment}
+use Rattle.k_reports.proofs.Segments.{proc_segment, shared_segment}
 use Rattle.k_history.proofs.replies.segment_named.Goals as goal
 
 pub returns-in-Some : goal.returns-in-Some

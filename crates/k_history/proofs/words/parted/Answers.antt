@@ -1,6 +1,6 @@
 use Rattle.std.proofs.Common.{◌∙◌, length, take, drop, ◌-◌, sym, arith, refl, inl, inr}
 use Rattle.std.specs.Str.{bytes_eq}
-use Rattle.k_history.proofs.Parted.{found_inside, found_outside, not_found, next_word, word_fits}
+use Rattle.k_reports.proofs.Parted.{found_inside, found_outside, not_found, next_word, word_fits}
 use Rattle.k_history.proofs.words.parted.Goals.{then-at-eq0-via-then-at-eq0, then-at-eq0-via-else-at-eq0+then-end-rest}
 use Rattle.k_history.proofs.words.parted.Goals as goal
 

@@ -1,6 +1,6 @@
 use Rattle.std.proofs.Common.{◌-◌, length}
 use Rattle.std.specs.Str.{bytes_eq}
-use Rattle.k_history.proofs.Parted.{IsPlace}
+use Rattle.k_reports.proofs.Parted.{IsPlace}
 use Rattle.k_history.proofs.words.parted.Given as goal
 
 abbrev pub invariant-words : goal.invariant-words

@@ -5,10 +5,10 @@ use Rattle.k_words.specs.Words.{Text}
 use Rattle.k_trace.specs.Named.{NamedTrace}
 use Rattle.k_trace.specs.Rules.{IsTrace}
 use Rattle.k_text.specs.Report.{report_text}
-use Rattle.k_history.specs.Good.{IsBegun}
-use Rattle.k_history.specs.Histories.{history_of}
-use Rattle.k_history.proofs.Refusals.{proper}
-use Rattle.k_history.proofs.ReportLines.{history_of_text}
+use Rattle.k_reports.specs.Begun.{IsBegun}
+use Rattle.k_reports.specs.Histories.{history_of}
+use Rattle.k_reports.proofs.Proper.{proper}
+use Rattle.k_reports.proofs.ReportLines.{history_of_text}
 use Rattle.k_reports.proofs.Spelled.{all_spelled}
 use Rattle.k_reports.proofs.laws.reports_tell_their_history.Goals as goal
 

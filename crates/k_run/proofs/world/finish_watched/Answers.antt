@@ -10,7 +10,7 @@ use Rattle.k_opening.specs.k_locks.k_watch.Values.{PenValue}
 use Rattle.k_run.specs.Runs.{IsRunOf}
 use Rattle.k_opening.specs.Worlds.{RunValue}
 use Rattle.k_run.proofs.Ended.{can_end, ended_run, setup_same}
-use Rattle.k_run.proofs.Watched.{has_pen}
+use Rattle.k_run.proofs.Pens.{has_pen}
 use Rattle.k_run.proofs.world.finish_watched.Goals as goal
 
 pub outcome_of-requires : goal.outcome_of-requires

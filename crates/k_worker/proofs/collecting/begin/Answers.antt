@@ -2,7 +2,7 @@ use Rattle.k_types.specs.declared.op.Op.TheVariants.{Collect}
 use Rattle.k_worker.proofs.Stepped.{done_after, next_settled, published_left}
 use Rattle.k_worker.proofs.Shows.{one_grows, published_grows}
 use Rattle.k_locks.proofs.ShownOn.{was_shown}
-use Rattle.k_complete.proofs.Grown.{prefix_trans}
+use Rattle.k_operate.proofs.Grown.{prefix_trans}
 use Rattle.k_worker.proofs.collecting.begin.Goals as goal
 
 pub begin_collection-requires : goal.begin_collection-requires

@@ -5,7 +5,7 @@ use Rattle.k_locks.specs.k_process.Standing.{ComesNext, HasDone}
 use Rattle.k_worker.proofs.Stepped.{done_after, next_settled, published_left}
 use Rattle.k_worker.proofs.Shows.{operation_grows, published_grows}
 use Rattle.k_locks.proofs.ShownOn.{was_shown}
-use Rattle.k_complete.proofs.Grown.{prefix_trans}
+use Rattle.k_operate.proofs.Grown.{prefix_trans}
 use Rattle.k_worker.proofs.collecting.exit.Goals as goal
 
 pub do_exit-requires : goal.do_exit-requires

@@ -1,5 +1,5 @@
 use Rattle.k_locks.proofs.ShownOn.{was_shown}
-use Rattle.k_complete.proofs.Grown.{prefix_by}
+use Rattle.k_operate.proofs.Grown.{prefix_by}
 use Rattle.k_worker.proofs.collecting.leave.Goals as goal
 
 pub show-requires : goal.show-requires

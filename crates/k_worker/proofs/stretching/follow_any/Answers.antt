@@ -1,4 +1,4 @@
-use Rattle.k_complete.proofs.Since.{steps_else}
+use Rattle.k_operate.proofs.Since.{steps_else}
 use Rattle.k_worker.proofs.stretching.follow_any.Goals as goal
 
 pub follow_step-requires-clause-steps : goal.follow_step-requires-clause-steps

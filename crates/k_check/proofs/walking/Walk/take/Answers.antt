@@ -1,7 +1,7 @@
 use Rattle.std.proofs.Common.{◌∙◌, ◌++◌, ◌∷◌, [], List, refl, sym, subst, ap}
 use Rattle.k_types.specs.declared.event.Event.{Event}
 use Rattle.k_trace.specs.Meaning.{meaning_of}
-use Rattle.k_history.specs.Good.{IsBegun}
+use Rattle.k_reports.specs.Begun.{IsBegun}
 use Rattle.k_check.specs.Walks.{IsWalk, Walked}
 use Rattle.k_check.proofs.InTurn.{begun_with, may_come, turn_of}
 use Rattle.k_check.proofs.Rooms.{room_here}

@@ -1,5 +1,5 @@
 use Rattle.std.proofs.Common.{◌≡◌, ◌∙◌, [], sym, subst}
-use Rattle.k_reports.specs.Verdicts.{IsAccepted}
+use Rattle.k_history.specs.Verdicts.{IsAccepted}
 use Rattle.k_words.specs.Words.{Text}
 use Rattle.k_print.specs.Printed.{named_done, report_of}
 use Rattle.k_print.proofs.printed.Printed.report_text.Goals as goal

@@ -1,7 +1,7 @@
 use Rattle.std.proofs.Common.{◌∙◌, ap, ap₂, subst}
 use Rattle.k_io.specs.declared.errors.WriteFailed.{WriteFailed}
 use Rattle.k_io.specs.Writing.{Writes}
-use Rattle.k_reports.specs.Verdicts.{IsAccepted}
+use Rattle.k_history.specs.Verdicts.{IsAccepted}
 use Rattle.k_text.specs.Report.{text_over}
 use Rattle.k_types.specs.State.{State}
 use Rattle.k_types.specs.Trace.{Trace}

@@ -1,5 +1,0 @@
-use Rattle.k_steps.proofs.Once.{ends_once}
-use Rattle.k_steps.proofs.laws.ends_are_told_once.Goals as goal
-
-pub returns : goal.returns
-returns c = ends_once

@@ -1,5 +1,0 @@
-use Rattle.k_steps.proofs.Told.{reached_is_touched}
-use Rattle.k_steps.proofs.laws.reached_cells_are_touched.Goals as goal
-
-pub returns : goal.returns
-returns c = reached_is_touched

@@ -1,4 +1,0 @@
-use Rattle.k_worker.proofs.ordering.mark_collection.Given as goal
-
-abbrev pub ghost-mark_collection : goal.ghost-mark_collection
-ghost-mark_collection g a = g.world'

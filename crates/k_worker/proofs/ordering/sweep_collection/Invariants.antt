@@ -1,4 +1,0 @@
-use Rattle.k_worker.proofs.ordering.sweep_collection.Given as goal
-
-abbrev pub ghost-sweep_collection : goal.ghost-sweep_collection
-ghost-sweep_collection g a = g.world'
