@@ -17,7 +17,7 @@ from launcher.sentences import NO_PROGRAM
 NO_KIT = "rt, the command of the Rattle kit, is not on the PATH, so the program cannot be built"
 # What each program is called in messages, and how long its proved build takes where nothing is proved yet, which --help says of the whole one.
 CALLED = {sources.PROGRAM: "the whole program", sources.RUN_PROGRAM: "the program that runs traces"}
-FIRST_BUILD = {sources.PROGRAM: "twenty to forty minutes", sources.RUN_PROGRAM: "fifteen to forty minutes"}
+FIRST_BUILD = {sources.PROGRAM: "twenty to forty minutes", sources.RUN_PROGRAM: "fifteen to thirty minutes"}
 # The workload of the run in which the unproved program is taken out of rt's own folder, and how often that folder is looked at.
 SMALL_WORKLOAD, LOOK_SECONDS = "100", 0.01
 
