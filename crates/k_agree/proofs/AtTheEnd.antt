@@ -4,22 +4,22 @@ use Rattle.std.specs.List.{list_all}
 use Rattle.std.proofs.Math.Path.{fun_ext}
 use Rattle.std.proofs.lemmas.List.{take_all}
 use Rattle.std.proofs.lemmas.Bool.{or_cases, or_left, or_right, and_parts, and_from, false≢true, cases_Bool, false_from_ne_true}
-use Rattle.k_locality.specs.k_types.Agree.{BookValue, CellValue, AreMarks}
-use Rattle.k_locality.specs.k_types.Cells.{BookPart, Cell, ShownPart, part, book_part}
-use Rattle.k_locality.specs.k_types.Complete.{IsComplete, all_ended}
-use Rattle.k_locality.specs.k_types.Names.{among}
-use Rattle.k_locality.specs.k_types.Numbers.{numbers_below}
-use Rattle.k_locality.specs.k_types.Owners.{user, phase_of}
-use Rattle.k_locality.specs.k_types.Sound.{IsSound}
-use Rattle.k_locality.specs.k_types.State.{State, Scan, Sharing, opening, has_share, scan_of}
-use Rattle.k_locality.specs.k_types.Steps.{state_after, done_by, has_sharer, is_live, no_orphan}
-use Rattle.k_locality.specs.k_types.Trace.{Trace, IsHeap, process_count, operations_of}
-use Rattle.k_locality.specs.k_types.TraceRules.{AreLimits}
+use Rattle.k_laws.specs.k_types.Agree.{BookValue, CellValue, AreMarks}
+use Rattle.k_laws.specs.k_types.Cells.{BookPart, Cell, ShownPart, part, book_part}
+use Rattle.k_laws.specs.k_types.Complete.{IsComplete, all_ended}
+use Rattle.k_laws.specs.k_types.Names.{among}
+use Rattle.k_laws.specs.k_types.Numbers.{numbers_below}
+use Rattle.k_laws.specs.k_types.Owners.{user, phase_of}
+use Rattle.k_laws.specs.k_types.Sound.{IsSound}
+use Rattle.k_laws.specs.k_types.State.{State, Scan, Sharing, opening, has_share, scan_of}
+use Rattle.k_laws.specs.k_types.Steps.{state_after, done_by, has_sharer, is_live, no_orphan}
+use Rattle.k_laws.specs.k_types.Trace.{Trace, IsHeap, process_count, operations_of}
+use Rattle.k_laws.specs.k_types.TraceRules.{AreLimits}
 use Rattle.k_tie.proofs.NameTests.{heap_eq_refl}
-use Rattle.k_locality.proofs.ByProcess.{follows_own}
-use Rattle.k_locality.proofs.Sizes.{history_sized}
-use Rattle.k_locality.proofs.SoundOpening.{opening_sound}
-use Rattle.k_locality.proofs.SoundSteps.{run_sound}
+use Rattle.k_laws.proofs.ByProcess.{follows_own}
+use Rattle.k_laws.proofs.Sizes.{history_sized}
+use Rattle.k_laws.proofs.SoundOpening.{opening_sound}
+use Rattle.k_laws.proofs.SoundSteps.{run_sound}
 use Rattle.k_tie.specs.Values.{JournalValue, NoteValue}
 use Rattle.k_agree.specs.Agreement.{Shows, Agrees, BookAgrees}
 use Rattle.k_agree.specs.Settled.{IsThrough, IsOver, all_ended_in, no_orphan_in}
@@ -63,12 +63,12 @@ sharers_same shares others s same =
     ]
 
 -- no heap is collected, so no collection is open
-no_scans : (scans : List Scan) (IsKnown : Cell → Type 0) → ((c : Cell) (roots : List Rattle.k_locality.specs.k_types.declared.names.Name.Name) → scan_of scans c ≡ Some roots → IsKnown c) →
+no_scans : (scans : List Scan) (IsKnown : Cell → Type 0) → ((c : Cell) (roots : List Rattle.k_laws.specs.k_types.declared.names.Name.Name) → scan_of scans c ≡ Some roots → IsKnown c) →
     ((c : Cell) → IsKnown c → scan_of scans c ≡ None) → scans ≡ []
 no_scans [] IsKnown known none = refl
 no_scans (scan ∷ scans) IsKnown known none =
     let first : scan_of (scan ∷ scans) scan.heap ≡ Some scan.roots =
-    ap (λ b. option_map (λ (s : Scan). s.roots) (cond b (Some scan) (find (λ s. Rattle.k_locality.specs.k_types.Names.heap_eq s.heap scan.heap) scans))) (heap_eq_refl scan.heap) in
+    ap (λ b. option_map (λ (s : Scan). s.roots) (cond b (Some scan) (find (λ s. Rattle.k_laws.specs.k_types.Names.heap_eq s.heap scan.heap) scans))) (heap_eq_refl scan.heap) in
     absurd (cc (none scan.heap (known scan.heap scan.roots first), first))
 
 module _ (trace : Trace) (journal : JournalValue) (book : BookValue) (limits : AreLimits trace) (over : IsOver trace journal book) where

@@ -1,26 +1,26 @@
 -- A collection that begins with its roots gray.
 use Rattle.std.proofs.Common.{◌≡◌, ◌||◌, cond, refl, sym, ap, ◌∙◌, subst, List, ◌∷◌, map, filter, find, Option, Some, option_map}
 use Rattle.std.proofs.Math.Path.{fun_ext}
-use Rattle.k_locality.specs.k_types.declared.event.Event.{Event}
-use Rattle.k_locality.specs.k_types.declared.event.Event.TheVariants.{Done, Ended, Absorbed, Closing}
-use Rattle.k_locality.specs.k_types.declared.names.Heap.{Heap}
-use Rattle.k_locality.specs.k_types.declared.names.Heap.TheVariants.{Kernel, User, Shared}
-use Rattle.k_locality.specs.k_types.declared.names.Name.{Name}
-use Rattle.k_locality.specs.k_types.declared.names.CellPhase.TheVariants.{Begun}
-use Rattle.k_locality.specs.k_types.declared.op.Op.TheVariants.{Collect, KCollect}
-use Rattle.k_locality.specs.k_types.Agree.{BookValue, CellValue, AreMarks}
-use Rattle.k_locality.specs.k_types.Cells.{BookPart, CellPart, ShownPart, part, book_part}
-use Rattle.k_locality.specs.k_types.Effects.{step, after_operation, effect, after_closing}
-use Rattle.k_locality.specs.k_types.Names.{heap_eq, name_among}
-use Rattle.k_locality.specs.k_types.Reach.{roots_of}
-use Rattle.k_locality.specs.k_types.Replies.{faults, first_fault}
-use Rattle.k_locality.specs.k_types.Sound.{IsSound}
-use Rattle.k_locality.specs.k_types.State.{State, Object, Scan, scan_of}
-use Rattle.k_locality.specs.k_types.Trace.{Trace}
-use Rattle.k_locality.specs.k_types.Updates.{open_scan, count_done, close}
+use Rattle.k_laws.specs.k_types.declared.event.Event.{Event}
+use Rattle.k_laws.specs.k_types.declared.event.Event.TheVariants.{Done, Ended, Absorbed, Closing}
+use Rattle.k_laws.specs.k_types.declared.names.Heap.{Heap}
+use Rattle.k_laws.specs.k_types.declared.names.Heap.TheVariants.{Kernel, User, Shared}
+use Rattle.k_laws.specs.k_types.declared.names.Name.{Name}
+use Rattle.k_laws.specs.k_types.declared.names.CellPhase.TheVariants.{Begun}
+use Rattle.k_laws.specs.k_types.declared.op.Op.TheVariants.{Collect, KCollect}
+use Rattle.k_laws.specs.k_types.Agree.{BookValue, CellValue, AreMarks}
+use Rattle.k_laws.specs.k_types.Cells.{BookPart, CellPart, ShownPart, part, book_part}
+use Rattle.k_laws.specs.k_types.Effects.{step, after_operation, effect, after_closing}
+use Rattle.k_laws.specs.k_types.Names.{heap_eq, name_among}
+use Rattle.k_laws.specs.k_types.Reach.{roots_of}
+use Rattle.k_laws.specs.k_types.Replies.{faults, first_fault}
+use Rattle.k_laws.specs.k_types.Sound.{IsSound}
+use Rattle.k_laws.specs.k_types.State.{State, Object, Scan, scan_of}
+use Rattle.k_laws.specs.k_types.Trace.{Trace}
+use Rattle.k_laws.specs.k_types.Updates.{open_scan, count_done, close}
 use Rattle.k_tie.proofs.NameTests.{heap_eq_refl}
-use Rattle.k_locality.specs.Roots.{roots_in, held_by, entered_in}
-use Rattle.k_locality.proofs.RootsTold.{roots_told}
+use Rattle.k_laws.specs.Roots.{roots_in, held_by, entered_in}
+use Rattle.k_laws.proofs.RootsTold.{roots_told}
 use Rattle.k_agree.specs.Agreement.{Shows, BookShows}
 use Rattle.k_agree.specs.Marking.{heap_begun_by, idle_part, roots_seen, begun}
 

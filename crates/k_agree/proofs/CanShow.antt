@@ -2,23 +2,23 @@
 use Rattle.std.proofs.Common.{◌≡◌, ℕ, zero, suc, ◌+◌, ◌-◌, ◌≤◌, ◌||◌, ◌&&◌, Bool, true, false, cond, refl, sym, ap, ap₂, ◌∙◌, List, [], ◌∷◌, ◌++◌, map, filter, length, get_or, arith, nat_le, Option, Some, None, unwrap_or, ne_eqb, leb-true, leb-false}
 use Rattle.std.proofs.Math.Path.{fun_ext}
 use Rattle.std.proofs.lemmas.Bool.{lt-leb}
-use Rattle.k_locality.specs.k_types.declared.names.Heap.{Heap}
-use Rattle.k_locality.specs.k_types.declared.names.Heap.TheVariants.{Kernel, User, Shared}
-use Rattle.k_locality.specs.k_types.declared.names.Name.{Name}
-use Rattle.k_locality.specs.k_types.declared.names.Phase.TheVariants.{Unmade}
-use Rattle.k_locality.specs.k_types.declared.event.Event.{Event}
-use Rattle.k_locality.specs.k_types.Agree.{AreMarks, CellValue}
-use Rattle.k_locality.specs.k_types.Counted.{Counted, counted}
-use Rattle.k_locality.specs.k_types.Cells.{Cell, book_part, made_of, part, pins_of, shown}
-use Rattle.k_locality.specs.k_types.Names.{heap_eq, leads_to, name_among, name_eq}
-use Rattle.k_locality.specs.k_types.Numbers.{numbers_below}
-use Rattle.k_locality.specs.k_types.Owners.{is_absorbed, owner_of, owner_of_segment, shared, user}
-use Rattle.k_locality.specs.k_types.State.{ExitItem, State, has_exit, scan_of}
-use Rattle.k_locality.specs.k_types.Steps.{state_after}
-use Rattle.k_locality.specs.k_types.Totals.{total}
-use Rattle.k_locality.specs.k_types.Trace.{IsHeap, Trace, process_count, segment_count}
+use Rattle.k_laws.specs.k_types.declared.names.Heap.{Heap}
+use Rattle.k_laws.specs.k_types.declared.names.Heap.TheVariants.{Kernel, User, Shared}
+use Rattle.k_laws.specs.k_types.declared.names.Name.{Name}
+use Rattle.k_laws.specs.k_types.declared.names.Phase.TheVariants.{Unmade}
+use Rattle.k_laws.specs.k_types.declared.event.Event.{Event}
+use Rattle.k_laws.specs.k_types.Agree.{AreMarks, CellValue}
+use Rattle.k_laws.specs.k_types.Counted.{Counted, counted}
+use Rattle.k_laws.specs.k_types.Cells.{Cell, book_part, made_of, part, pins_of, shown}
+use Rattle.k_laws.specs.k_types.Names.{heap_eq, leads_to, name_among, name_eq}
+use Rattle.k_laws.specs.k_types.Numbers.{numbers_below}
+use Rattle.k_laws.specs.k_types.Owners.{is_absorbed, owner_of, owner_of_segment, shared, user}
+use Rattle.k_laws.specs.k_types.State.{ExitItem, State, has_exit, scan_of}
+use Rattle.k_laws.specs.k_types.Steps.{state_after}
+use Rattle.k_laws.specs.k_types.Totals.{total}
+use Rattle.k_laws.specs.k_types.Trace.{IsHeap, Trace, process_count, segment_count}
 use Rattle.k_tie.proofs.NameTests.{name_eq-true}
-use Rattle.k_locality.proofs.Sizes.{history_sized}
+use Rattle.k_laws.proofs.Sizes.{history_sized}
 use Rattle.k_tie.proofs.Sums.{total_append}
 use Rattle.k_agree.specs.Agreement.{BookShows, Shows}
 use Rattle.k_agree.specs.Showing.{all_pins, book_of, cell_of, once, phase_of_scan, pin_of, row_pins, targets_of}

@@ -2,14 +2,14 @@
 use Rattle.std.proofs.Common.{◌≡◌, ℕ, ◌+◌, cond, sym, ap, ◌∙◌, subst, List, [], ◌∷◌, ◌++◌, append-nil, arith, IsTrue}
 use Rattle.std.specs.List.{AllByRecursion}
 use Rattle.std.proofs.lemmas.Bool.{or_left, or_right}
-use Rattle.k_locality.specs.k_types.declared.event.Event.{Event}
-use Rattle.k_locality.specs.k_types.Agree.{CellValue, BookValue, AreTail}
-use Rattle.k_locality.specs.k_types.Cells.{Cell, touches}
-use Rattle.k_locality.specs.k_types.Names.{heap_eq}
-use Rattle.k_locality.specs.k_types.State.{opening}
-use Rattle.k_locality.specs.k_types.Steps.{IsLegalHistory, IsPossible, state_after, touch_count}
-use Rattle.k_locality.specs.k_types.Trace.{Trace, IsHeap, segment_of}
-use Rattle.k_locality.proofs.Histories.{touches_append, legal_append, state_next}
+use Rattle.k_laws.specs.k_types.declared.event.Event.{Event}
+use Rattle.k_laws.specs.k_types.Agree.{CellValue, BookValue, AreTail}
+use Rattle.k_laws.specs.k_types.Cells.{Cell, touches}
+use Rattle.k_laws.specs.k_types.Names.{heap_eq}
+use Rattle.k_laws.specs.k_types.State.{opening}
+use Rattle.k_laws.specs.k_types.Steps.{IsLegalHistory, IsPossible, state_after, touch_count}
+use Rattle.k_laws.specs.k_types.Trace.{Trace, IsHeap, segment_of}
+use Rattle.k_laws.proofs.Histories.{touches_append, legal_append, state_next}
 use Rattle.k_tie.proofs.NameTests.{heap_eq_refl}
 use Rattle.k_tie.proofs.Totals.{prefix_longer}
 use Rattle.k_tie.specs.Rule.{total_of}

@@ -3,29 +3,29 @@ use Rattle.std.proofs.Common.{◌≡◌, ℕ, ◌+◌, ◌-◌, ◌==◌, ◌||�
 use Rattle.std.specs.List.{list_any}
 use Rattle.std.proofs.lemmas.Bool.{false≢true}
 use Rattle.std.proofs.Math.Path.{fun_ext}
-use Rattle.k_locality.specs.k_types.declared.names.CellPhase.TheVariants.{Marked}
-use Rattle.k_locality.specs.k_types.declared.names.Heap.{Heap}
-use Rattle.k_locality.specs.k_types.declared.names.Heap.TheVariants.{Kernel}
-use Rattle.k_locality.specs.k_types.declared.names.Name.{Name}
-use Rattle.k_locality.specs.k_types.Agree.{BookValue, CellValue, book_shown_by}
-use Rattle.k_locality.specs.k_types.Counted.{counted}
-use Rattle.k_locality.specs.k_types.Cells.{BookPart, Cell, CellPart, part, book_part}
-use Rattle.k_locality.specs.k_types.Effects.{after_ended}
-use Rattle.k_locality.specs.k_types.Names.{name_among, name_eq}
-use Rattle.k_locality.specs.k_types.Numbers.{numbers_below}
-use Rattle.k_locality.specs.k_types.Owners.{owner_of, user, object_bytes}
-use Rattle.k_locality.specs.k_types.Sound.{IsSound}
-use Rattle.k_locality.specs.k_types.State.{State, has_exit, has_share, refers}
-use Rattle.k_locality.specs.k_types.Totals.{total}
-use Rattle.k_locality.specs.k_types.Trace.{Trace, limit_of, segment_count}
-use Rattle.k_locality.specs.k_types.TraceRules.{AreLimits}
-use Rattle.k_locality.specs.k_types.Updates.{close_scan, keep_shares, keep_exits, keep_objects}
+use Rattle.k_laws.specs.k_types.declared.names.CellPhase.TheVariants.{Marked}
+use Rattle.k_laws.specs.k_types.declared.names.Heap.{Heap}
+use Rattle.k_laws.specs.k_types.declared.names.Heap.TheVariants.{Kernel}
+use Rattle.k_laws.specs.k_types.declared.names.Name.{Name}
+use Rattle.k_laws.specs.k_types.Agree.{BookValue, CellValue, book_shown_by}
+use Rattle.k_laws.specs.k_types.Counted.{counted}
+use Rattle.k_laws.specs.k_types.Cells.{BookPart, Cell, CellPart, part, book_part}
+use Rattle.k_laws.specs.k_types.Effects.{after_ended}
+use Rattle.k_laws.specs.k_types.Names.{name_among, name_eq}
+use Rattle.k_laws.specs.k_types.Numbers.{numbers_below}
+use Rattle.k_laws.specs.k_types.Owners.{owner_of, user, object_bytes}
+use Rattle.k_laws.specs.k_types.Sound.{IsSound}
+use Rattle.k_laws.specs.k_types.State.{State, has_exit, has_share, refers}
+use Rattle.k_laws.specs.k_types.Totals.{total}
+use Rattle.k_laws.specs.k_types.Trace.{Trace, limit_of, segment_count}
+use Rattle.k_laws.specs.k_types.TraceRules.{AreLimits}
+use Rattle.k_laws.specs.k_types.Updates.{close_scan, keep_shares, keep_exits, keep_objects}
 use Rattle.k_tie.proofs.NameTests.{name_eq-true}
 use Rattle.k_tie.proofs.Sums.{sum_same, parts_sum}
-use Rattle.k_locality.specs.Distinct.{AreDistinctNames}
-use Rattle.k_locality.specs.BookChanges.{bytes_in, drops, has_way_into, shared_by}
-use Rattle.k_locality.specs.CellChanges.{collected}
-use Rattle.k_locality.proofs.CollectedOnBook.{kernel_collected_on_book, collected_on_book}
+use Rattle.k_laws.specs.k_types.Distinct.{AreDistinctNames}
+use Rattle.k_laws.specs.BookChanges.{bytes_in, drops, has_way_into, shared_by}
+use Rattle.k_laws.specs.CellChanges.{collected}
+use Rattle.k_laws.proofs.CollectedOnBook.{kernel_collected_on_book, collected_on_book}
 use Rattle.k_agree.specs.Agreement.{Shows, BookShows}
 use Rattle.k_agree.specs.Ending.{dropped, freed_bytes, keeps_way, bytes_unshared, HasLeft, HasSettledWith}
 use Rattle.k_agree.proofs.Swept.{among_kept, marks, reached, reached_here, exits_are, black_exit, objects_are, kept_objects}

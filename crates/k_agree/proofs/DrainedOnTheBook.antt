@@ -1,25 +1,25 @@
 -- The values between and after the drains are there.
 use Rattle.std.proofs.Common.{◌≡◌, ℕ, ◌+◌, ◌-◌, ◌<◌, ◌==◌, ◌||◌, ◌&&◌, not, Bool, true, false, cond, refl, sym, ap, ◌∙◌, List, [], ◌∷◌, ◌++◌, map, get_or, set, arith, nat_lt, ltb-true, ltb-false}
 use Rattle.std.proofs.lemmas.Bool.{false≢true, false_from_ne_true, or_right}
-use Rattle.k_locality.specs.k_types.declared.names.Heap.{Heap}
-use Rattle.k_locality.specs.k_types.declared.names.Heap.TheVariants.{Kernel}
-use Rattle.k_locality.specs.k_types.declared.names.Name.{Name}
-use Rattle.k_locality.specs.k_types.declared.names.Phase.TheVariants.{Absorbed}
-use Rattle.k_locality.specs.k_types.Agree.{BookValue, CellValue}
-use Rattle.k_locality.specs.k_types.Counted.{Counted, counted}
-use Rattle.k_locality.specs.k_types.Cells.{BookPart, ShownPart, part, book_part, pins_of}
-use Rattle.k_locality.specs.k_types.Effects.{after_end_of}
-use Rattle.k_locality.specs.k_types.Names.{among, heap_eq, name_among, name_eq}
-use Rattle.k_locality.specs.k_types.Owners.{owner_of, shared, user}
-use Rattle.k_locality.specs.k_types.Sound.{IsSound}
-use Rattle.k_locality.specs.k_types.State.{State, has_share}
-use Rattle.k_locality.specs.k_types.Trace.{Trace, limit_of, segment_of}
-use Rattle.k_locality.specs.k_types.TraceRules.{AreLimits}
+use Rattle.k_laws.specs.k_types.declared.names.Heap.{Heap}
+use Rattle.k_laws.specs.k_types.declared.names.Heap.TheVariants.{Kernel}
+use Rattle.k_laws.specs.k_types.declared.names.Name.{Name}
+use Rattle.k_laws.specs.k_types.declared.names.Phase.TheVariants.{Absorbed}
+use Rattle.k_laws.specs.k_types.Agree.{BookValue, CellValue}
+use Rattle.k_laws.specs.k_types.Counted.{Counted, counted}
+use Rattle.k_laws.specs.k_types.Cells.{BookPart, ShownPart, part, book_part, pins_of}
+use Rattle.k_laws.specs.k_types.Effects.{after_end_of}
+use Rattle.k_laws.specs.k_types.Names.{among, heap_eq, name_among, name_eq}
+use Rattle.k_laws.specs.k_types.Owners.{owner_of, shared, user}
+use Rattle.k_laws.specs.k_types.Sound.{IsSound}
+use Rattle.k_laws.specs.k_types.State.{State, has_share}
+use Rattle.k_laws.specs.k_types.Trace.{Trace, limit_of, segment_of}
+use Rattle.k_laws.specs.k_types.TraceRules.{AreLimits}
 use Rattle.k_tie.proofs.NameTests.{name_eq-true, name_eq_refl}
-use Rattle.k_locality.specs.Distinct.{AreDistinctNames}
-use Rattle.k_locality.specs.Changes.{MayExit}
-use Rattle.k_locality.specs.BookChanges.{registers_in}
-use Rattle.k_locality.proofs.EndsOnBook.{end_on_book}
+use Rattle.k_laws.specs.k_types.Distinct.{AreDistinctNames}
+use Rattle.k_laws.specs.Changes.{MayExit}
+use Rattle.k_laws.specs.BookChanges.{registers_in}
+use Rattle.k_laws.proofs.EndsOnBook.{end_on_book}
 use Rattle.k_agree.specs.Agreement.{Shows, BookShows}
 use Rattle.k_agree.specs.GivingOnTheBook.{CanBeAbsorbed, CanBeEnded, charged, leading_into, new_to_kernel}
 use Rattle.k_agree.specs.Showing.{book_of, once}

@@ -1,37 +1,37 @@
 -- The cells after the event of an exit, a kill or an absorption.
 use Rattle.std.proofs.Common.{◌≡◌, ℕ, ◌<◌, refl, sym, ap, ◌∙◌, subst, [], ◌∷◌, ◌++◌, length, option_map, IsFalse, IsTrue, ne_eqb, not}
-use Rattle.k_locality.specs.k_types.declared.event.Event.TheVariants.{Absorbed, Done}
-use Rattle.k_locality.specs.k_types.declared.event.Reply.{Reply}
-use Rattle.k_locality.specs.k_types.declared.names.CellPhase.TheVariants.{Idle}
-use Rattle.k_locality.specs.k_types.declared.names.Heap.TheVariants.{Kernel}
-use Rattle.k_locality.specs.k_types.declared.names.Pid.{Pid}
-use Rattle.k_locality.specs.k_types.declared.names.SharedId.{SharedId}
-use Rattle.k_locality.specs.k_types.declared.op.Op.TheVariants.{Exit, Kill}
-use Rattle.k_locality.specs.k_types.Agree.{BookValue, CellValue}
-use Rattle.k_locality.specs.k_types.Cells.{ShownPart, part, shown, Cell}
-use Rattle.k_locality.specs.k_types.Effects.{after_end_of}
-use Rattle.k_locality.specs.k_types.Owners.{owner_of, shared, user}
-use Rattle.k_locality.specs.PartUpdates.{process_with_done}
-use Rattle.k_locality.specs.k_types.State.{State}
-use Rattle.k_locality.specs.k_types.Steps.{IsPossible, state_after}
-use Rattle.k_locality.specs.k_types.Trace.{Trace}
-use Rattle.k_locality.specs.k_types.TraceRules.{AreLimits}
-use Rattle.k_locality.specs.k_types.Updates.{count_done, clear_registers, end_process, keep_shares, turn_exits}
-use Rattle.k_locality.proofs.Elsewhere.{count_done_elsewhere}
-use Rattle.k_locality.proofs.Histories.{state_next}
-use Rattle.k_locality.proofs.LocalEffects.{part_done}
+use Rattle.k_laws.specs.k_types.declared.event.Event.TheVariants.{Absorbed, Done}
+use Rattle.k_laws.specs.k_types.declared.event.Reply.{Reply}
+use Rattle.k_laws.specs.k_types.declared.names.CellPhase.TheVariants.{Idle}
+use Rattle.k_laws.specs.k_types.declared.names.Heap.TheVariants.{Kernel}
+use Rattle.k_laws.specs.k_types.declared.names.Pid.{Pid}
+use Rattle.k_laws.specs.k_types.declared.names.SharedId.{SharedId}
+use Rattle.k_laws.specs.k_types.declared.op.Op.TheVariants.{Exit, Kill}
+use Rattle.k_laws.specs.k_types.Agree.{BookValue, CellValue}
+use Rattle.k_laws.specs.k_types.Cells.{ShownPart, part, shown, Cell}
+use Rattle.k_laws.specs.k_types.Effects.{after_end_of}
+use Rattle.k_laws.specs.k_types.Owners.{owner_of, shared, user}
+use Rattle.k_laws.specs.PartUpdates.{process_with_done}
+use Rattle.k_laws.specs.k_types.State.{State}
+use Rattle.k_laws.specs.k_types.Steps.{IsPossible, state_after}
+use Rattle.k_laws.specs.k_types.Trace.{Trace}
+use Rattle.k_laws.specs.k_types.TraceRules.{AreLimits}
+use Rattle.k_laws.specs.k_types.Updates.{count_done, clear_registers, end_process, keep_shares, turn_exits}
+use Rattle.k_laws.proofs.Elsewhere.{count_done_elsewhere}
+use Rattle.k_laws.proofs.Histories.{state_next}
+use Rattle.k_laws.proofs.LocalEffects.{part_done}
 use Rattle.k_tie.specs.Values.{JournalValue}
 use Rattle.k_agree.specs.Agreement.{BookAgrees, Shows}
 use Rattle.k_agree.specs.GivingAway.{HasTakenIn, absorbed_cell, ended_cell, with_one_done}
 use Rattle.k_agree.proofs.AtTheEnd.{book_sound}
 use Rattle.k_agree.proofs.GivenAway.{absorb_cell, absorb_kernel, exit_cell, exit_kernel, still_idle}
 use Rattle.k_agree.proofs.GivenOnTheBook.{absorbed_event, may_absorb, may_exit}
-use Rattle.k_locality.specs.k_types.Names.{heap_eq, among}
-use Rattle.k_locality.specs.k_types.Replies.{ends_other}
-use Rattle.k_locality.specs.k_types.Limits.{is_above}
-use Rattle.k_locality.proofs.Ending.{kill_event, may_end_other, exit_event}
+use Rattle.k_laws.specs.k_types.Names.{heap_eq, among}
+use Rattle.k_laws.specs.k_types.Replies.{ends_other}
+use Rattle.k_laws.specs.k_types.Limits.{is_above}
+use Rattle.k_laws.proofs.Ending.{kill_event, may_end_other, exit_event}
 use Rattle.k_tie.proofs.Ancestors.{above_another}
-use Rattle.k_locality.proofs.ElsewhereOther.{exited_elsewhere}
+use Rattle.k_laws.proofs.ElsewhereOther.{exited_elsewhere}
 use Rattle.std.proofs.lemmas.Bool.{and_parts}
 
 -- an operation that counts as done shows in its process's cell alone

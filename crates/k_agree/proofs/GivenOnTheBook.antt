@@ -2,50 +2,50 @@
 use Rattle.std.proofs.Common.{◌≡◌, ◌≢◌, ℕ, zero, suc, ◌+◌, ◌-◌, ◌<◌, ◌==◌, ◌||◌, ◌&&◌, not, Bool, true, false, cond, refl, sym, ap, ap₂, ◌∙◌, subst, List, [], ◌∷◌, ◌++◌, map, get_or, set, arith, nat_le, false-eqb, leb-false, IsTrue}
 use Rattle.std.proofs.lemmas.Bool.{false≢true, and_parts, not-true, false_from_ne_true}
 use Rattle.std.proofs.Math.Path.{fun_ext}
-use Rattle.k_locality.specs.k_types.declared.event.Event.TheVariants.{Absorbed as AbsorbedEvent, Done}
-use Rattle.k_locality.specs.k_types.declared.event.Reply.{Reply}
-use Rattle.k_locality.specs.k_types.declared.names.Heap.{Heap}
-use Rattle.k_locality.specs.k_types.declared.names.Heap.TheVariants.{Kernel}
-use Rattle.k_locality.specs.k_types.declared.names.Name.{Name}
-use Rattle.k_locality.specs.k_types.declared.names.Phase.TheVariants.{Absorbed}
-use Rattle.k_locality.specs.k_types.declared.names.Pid.{Pid}
-use Rattle.k_locality.specs.k_types.declared.names.SharedId.{SharedId}
-use Rattle.k_locality.specs.k_types.declared.op.Op.TheVariants.{Exit, Kill}
-use Rattle.k_locality.specs.k_types.Agree.{BookValue, CellValue, book_shown_by}
-use Rattle.k_locality.specs.k_types.Counted.{counted}
-use Rattle.k_locality.specs.k_types.Cells.{BookPart, CellPart, ShownPart, part, book_part, pins_of, cells_touched, other_cells}
-use Rattle.k_locality.specs.k_types.Effects.{after_absorbed, after_end_of, step}
-use Rattle.k_locality.specs.k_types.Names.{among, heap_eq, name_among}
-use Rattle.k_locality.specs.k_types.Numbers.{numbers_below, numbers_from}
-use Rattle.k_locality.specs.k_types.Owners.{owner_of, owner_of_segment, shared, user, object_bytes, is_absorbed, phase_of}
-use Rattle.k_locality.specs.k_types.Reach.{is_shared_heap}
-use Rattle.k_locality.specs.k_types.Sound.{IsSound}
-use Rattle.k_locality.specs.k_types.Replies.{ends_other}
-use Rattle.k_locality.specs.k_types.State.{State, has_share, is_scanned}
-use Rattle.k_locality.specs.k_types.Steps.{IsPossible, has_sharer, is_live, state_after}
-use Rattle.k_locality.specs.k_types.Totals.{total}
-use Rattle.k_locality.specs.k_types.Trace.{Trace, limit_of, process_count, segment_of, segment_count}
-use Rattle.k_locality.specs.k_types.TraceRules.{AreLimits}
-use Rattle.k_locality.specs.k_types.Updates.{count_done}
-use Rattle.k_locality.proofs.Histories.{state_next}
+use Rattle.k_laws.specs.k_types.declared.event.Event.TheVariants.{Absorbed as AbsorbedEvent, Done}
+use Rattle.k_laws.specs.k_types.declared.event.Reply.{Reply}
+use Rattle.k_laws.specs.k_types.declared.names.Heap.{Heap}
+use Rattle.k_laws.specs.k_types.declared.names.Heap.TheVariants.{Kernel}
+use Rattle.k_laws.specs.k_types.declared.names.Name.{Name}
+use Rattle.k_laws.specs.k_types.declared.names.Phase.TheVariants.{Absorbed}
+use Rattle.k_laws.specs.k_types.declared.names.Pid.{Pid}
+use Rattle.k_laws.specs.k_types.declared.names.SharedId.{SharedId}
+use Rattle.k_laws.specs.k_types.declared.op.Op.TheVariants.{Exit, Kill}
+use Rattle.k_laws.specs.k_types.Agree.{BookValue, CellValue, book_shown_by}
+use Rattle.k_laws.specs.k_types.Counted.{counted}
+use Rattle.k_laws.specs.k_types.Cells.{BookPart, CellPart, ShownPart, part, book_part, pins_of, cells_touched, other_cells}
+use Rattle.k_laws.specs.k_types.Effects.{after_absorbed, after_end_of, step}
+use Rattle.k_laws.specs.k_types.Names.{among, heap_eq, name_among}
+use Rattle.k_laws.specs.k_types.Numbers.{numbers_below, numbers_from}
+use Rattle.k_laws.specs.k_types.Owners.{owner_of, owner_of_segment, shared, user, object_bytes, is_absorbed, phase_of}
+use Rattle.k_laws.specs.k_types.Reach.{is_shared_heap}
+use Rattle.k_laws.specs.k_types.Sound.{IsSound}
+use Rattle.k_laws.specs.k_types.Replies.{ends_other}
+use Rattle.k_laws.specs.k_types.State.{State, has_share, is_scanned}
+use Rattle.k_laws.specs.k_types.Steps.{IsPossible, has_sharer, is_live, state_after}
+use Rattle.k_laws.specs.k_types.Totals.{total}
+use Rattle.k_laws.specs.k_types.Trace.{Trace, limit_of, process_count, segment_of, segment_count}
+use Rattle.k_laws.specs.k_types.TraceRules.{AreLimits}
+use Rattle.k_laws.specs.k_types.Updates.{count_done}
+use Rattle.k_laws.proofs.Histories.{state_next}
 use Rattle.k_tie.proofs.NameTests.{heap_eq-true, heap_eq_refl}
-use Rattle.k_locality.proofs.OwnerOf.{owner_user, segment_of_shared}
+use Rattle.k_laws.proofs.OwnerOf.{owner_user, segment_of_shared}
 use Rattle.k_tie.proofs.Sums.{sum_same}
-use Rattle.k_locality.proofs.Merge.{merged}
-use Rattle.k_locality.proofs.SoundAbsorbed.{is_merged as absorbed_owner}
-use Rattle.k_locality.proofs.SoundExited.{is_merged as ended_owner}
-use Rattle.k_locality.specs.Changes.{MayAbsorb, MayExit}
-use Rattle.k_locality.specs.BookChanges.{charge_in, led_back, lost_with, registers_in}
-use Rattle.k_locality.proofs.EndsOnBook.{end_on_book}
-use Rattle.k_locality.proofs.OnBook.{count_done_on_book}
-use Rattle.k_locality.proofs.TakenOnBook.{taken_on_book}
+use Rattle.k_laws.proofs.Merge.{merged}
+use Rattle.k_laws.proofs.SoundAbsorbed.{is_merged as absorbed_owner}
+use Rattle.k_laws.proofs.SoundExited.{is_merged as ended_owner}
+use Rattle.k_laws.specs.Changes.{MayAbsorb, MayExit}
+use Rattle.k_laws.specs.BookChanges.{charge_in, led_back, lost_with, registers_in}
+use Rattle.k_laws.proofs.EndsOnBook.{end_on_book}
+use Rattle.k_laws.proofs.OnBook.{count_done_on_book}
+use Rattle.k_laws.proofs.TakenOnBook.{taken_on_book}
 use Rattle.k_agree.specs.Agreement.{Shows, BookAgrees, BookShows}
 use Rattle.k_agree.specs.GivingOnTheBook.{HasAbsorbed, HasEnded, charged, leading_into, new_to_kernel}
 use Rattle.k_tie.specs.Values.{JournalValue}
 use Rattle.k_agree.proofs.AtTheEnd.{book_sound}
 use Rattle.k_agree.proofs.Swept.{among_kept}
 use Rattle.k_tie.proofs.Lists.{none_is}
-use Rattle.k_locality.proofs.Ending.{kill_event, may_end_other, exit_event}
+use Rattle.k_laws.proofs.Ending.{kill_event, may_end_other, exit_event}
 
 -- a list over numbers of which one is given another value
 map_above : {A : Type 0} (f g : ℕ → A) (first n k : ℕ) → k < first → ((q : ℕ) → q ≢ k → g q ≡ f q) → map g (numbers_from first n) ≡ map f (numbers_from first n)

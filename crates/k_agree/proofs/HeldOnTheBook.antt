@@ -1,27 +1,27 @@
 -- What the book gives up is there, and goes one by one.
 use Rattle.std.proofs.Common.{◌≡◌, ℕ, zero, suc, length, ◌+◌, ◌<◌, ◌≤◌, ◌==◌, ◌&&◌, not, Bool, true, false, cond, refl, sym, ap, ◌∙◌, inl, inr, List, [], ◌∷◌, get_or, arith, Option, eq-eqb}
 use Rattle.std.proofs.lemmas.Bool.{false≢true, and_parts, false_from_ne_true, cases_eq}
-use Rattle.k_locality.specs.k_types.declared.names.Heap.{Heap}
-use Rattle.k_locality.specs.k_types.declared.names.Heap.TheVariants.{Kernel}
-use Rattle.k_locality.specs.k_types.declared.names.Name.{Name}
-use Rattle.k_locality.specs.k_types.Agree.{BookValue, CellValue}
-use Rattle.k_locality.specs.k_types.Counted.{counted}
-use Rattle.k_locality.specs.k_types.Cells.{BookPart, Cell, ShownPart, part, book_part, pins_of}
-use Rattle.k_locality.specs.k_types.Limits.{direct_by}
-use Rattle.k_locality.specs.k_types.Names.{heap_eq, leads_to, name_among, name_eq}
-use Rattle.k_locality.specs.k_types.Numbers.{numbers_from}
-use Rattle.k_locality.specs.k_types.Owners.{charge_of, owner_of, user}
-use Rattle.k_locality.specs.k_types.Reach.{is_shared_heap}
-use Rattle.k_locality.specs.k_types.Sound.{IsSound}
-use Rattle.k_locality.specs.k_types.State.{State}
-use Rattle.k_locality.specs.k_types.Totals.{total}
-use Rattle.k_locality.specs.k_types.Trace.{Trace, limit_of, process_count}
-use Rattle.k_locality.specs.k_types.TraceRules.{AreLimits}
+use Rattle.k_laws.specs.k_types.declared.names.Heap.{Heap}
+use Rattle.k_laws.specs.k_types.declared.names.Heap.TheVariants.{Kernel}
+use Rattle.k_laws.specs.k_types.declared.names.Name.{Name}
+use Rattle.k_laws.specs.k_types.Agree.{BookValue, CellValue}
+use Rattle.k_laws.specs.k_types.Counted.{counted}
+use Rattle.k_laws.specs.k_types.Cells.{BookPart, Cell, ShownPart, part, book_part, pins_of}
+use Rattle.k_laws.specs.k_types.Limits.{direct_by}
+use Rattle.k_laws.specs.k_types.Names.{heap_eq, leads_to, name_among, name_eq}
+use Rattle.k_laws.specs.k_types.Numbers.{numbers_from}
+use Rattle.k_laws.specs.k_types.Owners.{charge_of, owner_of, user}
+use Rattle.k_laws.specs.k_types.Reach.{is_shared_heap}
+use Rattle.k_laws.specs.k_types.Sound.{IsSound}
+use Rattle.k_laws.specs.k_types.State.{State}
+use Rattle.k_laws.specs.k_types.Totals.{total}
+use Rattle.k_laws.specs.k_types.Trace.{Trace, limit_of, process_count}
+use Rattle.k_laws.specs.k_types.TraceRules.{AreLimits}
 use Rattle.k_tie.proofs.NameTests.{heap_eq-true, heap_eq_refl, name_eq-true}
-use Rattle.k_locality.specs.Distinct.{AreDistinctNames}
-use Rattle.k_locality.specs.Changes.{MayExit}
-use Rattle.k_locality.specs.BookChanges.{registers_in}
-use Rattle.k_locality.proofs.EndsOnBook.{charge_told}
+use Rattle.k_laws.specs.k_types.Distinct.{AreDistinctNames}
+use Rattle.k_laws.specs.Changes.{MayExit}
+use Rattle.k_laws.specs.BookChanges.{registers_in}
+use Rattle.k_laws.proofs.EndsOnBook.{charge_told}
 use Rattle.k_agree.specs.Agreement.{Shows, BookShows}
 use Rattle.k_agree.specs.Ending.{HasLeft}
 use Rattle.k_agree.specs.GivingOnTheBook.{HasEntered, HasUnpinned, charged, leading_into, new_to_kernel}

@@ -2,22 +2,22 @@
 use Rattle.std.proofs.Common.{◌≡◌, ℕ, ◌&&◌, not, Bool, true, false, cond, refl, sym, ap, ◌∙◌, subst, List, ◌++◌, length, filter, get_or, Some, None, is_some}
 use Rattle.std.specs.List.{list_any}
 use Rattle.std.proofs.Math.Path.{fun_ext}
-use Rattle.k_locality.specs.k_types.declared.names.CellPhase.TheVariants.{Begun, Marked}
-use Rattle.k_locality.specs.k_types.declared.names.Name.{Name}
-use Rattle.k_locality.specs.k_types.Agree.{CellValue, AreMarks}
-use Rattle.k_locality.specs.k_types.Cells.{Cell, ShownPart, part, made_of}
-use Rattle.k_locality.specs.k_types.Names.{heap_eq, name_among}
-use Rattle.k_locality.specs.k_types.Owners.{owner_of, objects_of}
-use Rattle.k_locality.specs.k_types.Reach.{closure, reach_among, reach_in}
-use Rattle.k_locality.specs.k_types.Sound.{IsSound}
-use Rattle.k_locality.specs.k_types.State.{State, Object, opening, has, refers, refers_in, scan_of}
-use Rattle.k_locality.specs.k_types.Steps.{state_after}
-use Rattle.k_locality.specs.k_types.Trace.{Trace}
-use Rattle.k_locality.specs.k_types.TraceRules.{AreLimits}
+use Rattle.k_laws.specs.k_types.declared.names.CellPhase.TheVariants.{Begun, Marked}
+use Rattle.k_laws.specs.k_types.declared.names.Name.{Name}
+use Rattle.k_laws.specs.k_types.Agree.{CellValue, AreMarks}
+use Rattle.k_laws.specs.k_types.Cells.{Cell, ShownPart, part, made_of}
+use Rattle.k_laws.specs.k_types.Names.{heap_eq, name_among}
+use Rattle.k_laws.specs.k_types.Owners.{owner_of, objects_of}
+use Rattle.k_laws.specs.k_types.Reach.{closure, reach_among, reach_in}
+use Rattle.k_laws.specs.k_types.Sound.{IsSound}
+use Rattle.k_laws.specs.k_types.State.{State, Object, opening, has, refers, refers_in, scan_of}
+use Rattle.k_laws.specs.k_types.Steps.{state_after}
+use Rattle.k_laws.specs.k_types.Trace.{Trace}
+use Rattle.k_laws.specs.k_types.TraceRules.{AreLimits}
 use Rattle.k_tie.proofs.Objects.{has-kept, referrer}
-use Rattle.k_locality.proofs.Means.{reach_is, reached_refers}
-use Rattle.k_locality.proofs.SoundOpening.{opening_sound}
-use Rattle.k_locality.proofs.SoundSteps.{run_sound}
+use Rattle.k_laws.proofs.Means.{reach_is, reached_refers}
+use Rattle.k_laws.proofs.SoundOpening.{opening_sound}
+use Rattle.k_laws.proofs.SoundSteps.{run_sound}
 use Rattle.k_tie.specs.Values.{NoteValue}
 use Rattle.k_agree.specs.Agreement.{Shows, Agrees}
 use Rattle.k_agree.specs.Marking.{marked, is_foreign_in, AreReached}

@@ -3,22 +3,22 @@ use Rattle.std.proofs.Common.{◌≡◌, ℕ, zero, suc, ◌+◌, ◌-◌, ◌<�
 use Rattle.std.proofs.Math.Path.{fun_ext}
 use Rattle.std.proofs.lemmas.Bool.{false_from_ne_true}
 use Rattle.atomic_table.specs.Seated.{TableId}
-use Rattle.k_locality.specs.k_types.declared.names.Heap.TheVariants.{Kernel, User, Shared}
-use Rattle.k_locality.specs.k_types.declared.names.Name.{Name}
-use Rattle.k_locality.specs.k_types.declared.names.Phase.TheVariants.{Unmade}
-use Rattle.k_locality.specs.k_types.Agree.{BookValue, shown_by, book_shown_by}
-use Rattle.k_locality.specs.k_types.Cells.{Cell, ProcessPart, part, shown, book_part, pins, pins_of, made_of}
-use Rattle.k_locality.specs.k_types.Limits.{direct_by}
-use Rattle.k_locality.specs.k_types.Names.{heap_eq}
-use Rattle.k_locality.specs.k_types.Numbers.{numbers_below, numbers_from}
-use Rattle.k_locality.specs.k_types.Owners.{owner_of, owner_of_segment, bytes_by, bytes_of, charge_of, user, shared, phase_of, is_absorbed}
-use Rattle.k_locality.specs.k_types.State.{opening}
-use Rattle.k_locality.specs.k_types.Trace.{Trace, IsHeap, segment_of, segment_count, process_count, limit_of}
+use Rattle.k_laws.specs.k_types.declared.names.Heap.TheVariants.{Kernel, User, Shared}
+use Rattle.k_laws.specs.k_types.declared.names.Name.{Name}
+use Rattle.k_laws.specs.k_types.declared.names.Phase.TheVariants.{Unmade}
+use Rattle.k_laws.specs.k_types.Agree.{BookValue, shown_by, book_shown_by}
+use Rattle.k_laws.specs.k_types.Cells.{Cell, ProcessPart, part, shown, book_part, pins, pins_of, made_of}
+use Rattle.k_laws.specs.k_types.Limits.{direct_by}
+use Rattle.k_laws.specs.k_types.Names.{heap_eq}
+use Rattle.k_laws.specs.k_types.Numbers.{numbers_below, numbers_from}
+use Rattle.k_laws.specs.k_types.Owners.{owner_of, owner_of_segment, bytes_by, bytes_of, charge_of, user, shared, phase_of, is_absorbed}
+use Rattle.k_laws.specs.k_types.State.{opening}
+use Rattle.k_laws.specs.k_types.Trace.{Trace, IsHeap, segment_of, segment_count, process_count, limit_of}
 use Rattle.k_tie.proofs.NameTests.{heap_eq-same, heap_eq-true}
-use Rattle.k_locality.proofs.OwnerOf.{owner_user, owner_shared}
-use Rattle.k_locality.proofs.Sizes.{get_or-same, zeros_at}
+use Rattle.k_laws.proofs.OwnerOf.{owner_user, owner_shared}
+use Rattle.k_laws.proofs.Sizes.{get_or-same, zeros_at}
 use Rattle.k_tie.proofs.Sums.{sum_same, zeros}
-use Rattle.k_locality.proofs.SoundOpening.{all_unmade, charged_nothing}
+use Rattle.k_laws.proofs.SoundOpening.{all_unmade, charged_nothing}
 use Rattle.k_tie.specs.Values.{blank_note, empty_journal}
 use Rattle.k_agree.specs.Agreement.{BookShows, Agrees, BookAgrees}
 use Rattle.k_agree.specs.Opening.{opening_cell, opening_book, serials_at_first, made_at_first, homes_at_first}
@@ -213,7 +213,7 @@ module _ (trace : Trace) where
     totals = λ c there. refl;
   }
 
-pub home_at : (trace : Trace) (st : Rattle.k_locality.specs.k_types.State.State) (book : BookValue) (seg : ℕ) → BookShows trace st book → seg < segment_count trace → get_or book.homes seg Kernel ≡ owner_of trace st seg
+pub home_at : (trace : Trace) (st : Rattle.k_laws.specs.k_types.State.State) (book : BookValue) (seg : ℕ) → BookShows trace st book → seg < segment_count trace → get_or book.homes seg Kernel ≡ owner_of trace st seg
 home_at trace st book seg seen known =
     ap (λ homes. get_or homes seg Kernel) seen.homes
     ∙ at_number (owner_of trace st) 0 (segment_count trace) seg Kernel known

@@ -1,24 +1,24 @@
 -- A cell publishes the oldest of its unpublished events.
 use Rattle.std.proofs.Common.{◌≡◌, ℕ, cond, refl, sym, ap, ◌∙◌, subst, List, [], ◌∷◌, ◌++◌, append_assoc, arith, map, Option}
-use Rattle.k_locality.specs.k_types.declared.event.Event.{Event}
-use Rattle.k_locality.specs.k_types.declared.event.Event.TheVariants.{Done, Ended, Absorbed, Closing}
-use Rattle.k_locality.specs.k_types.declared.names.CellPhase.{CellPhase}
-use Rattle.k_locality.specs.k_types.declared.names.CellPhase.TheVariants.{Idle, Begun, Marked}
-use Rattle.k_locality.specs.k_types.declared.names.Name.{Name}
-use Rattle.k_locality.specs.k_types.Agree.{CellValue, BookValue, AreMarks}
-use Rattle.k_locality.specs.k_types.Cells.{Cell, touches, book_part}
-use Rattle.k_locality.specs.k_types.Effects.{step}
-use Rattle.k_locality.specs.k_types.Local.{AreLocal}
-use Rattle.k_locality.specs.k_types.Names.{heap_eq}
-use Rattle.k_locality.specs.k_types.Numbers.{numbers_below}
-use Rattle.k_locality.specs.k_types.Owners.{user, owner_of}
-use Rattle.k_locality.specs.k_types.State.{State, opening, scan_of}
-use Rattle.k_locality.specs.k_types.Steps.{IsLegalHistory, IsPossible, state_after, touch_count}
-use Rattle.k_locality.specs.k_types.Trace.{Trace, IsHeap, segment_of, segment_count}
-use Rattle.k_locality.proofs.Histories.{legal_rest, state_next}
+use Rattle.k_laws.specs.k_types.declared.event.Event.{Event}
+use Rattle.k_laws.specs.k_types.declared.event.Event.TheVariants.{Done, Ended, Absorbed, Closing}
+use Rattle.k_laws.specs.k_types.declared.names.CellPhase.{CellPhase}
+use Rattle.k_laws.specs.k_types.declared.names.CellPhase.TheVariants.{Idle, Begun, Marked}
+use Rattle.k_laws.specs.k_types.declared.names.Name.{Name}
+use Rattle.k_laws.specs.k_types.Agree.{CellValue, BookValue, AreMarks}
+use Rattle.k_laws.specs.k_types.Cells.{Cell, touches, book_part}
+use Rattle.k_laws.specs.k_types.Effects.{step}
+use Rattle.k_laws.specs.k_types.Local.{AreLocal}
+use Rattle.k_laws.specs.k_types.Names.{heap_eq}
+use Rattle.k_laws.specs.k_types.Numbers.{numbers_below}
+use Rattle.k_laws.specs.k_types.Owners.{user, owner_of}
+use Rattle.k_laws.specs.k_types.State.{State, opening, scan_of}
+use Rattle.k_laws.specs.k_types.Steps.{IsLegalHistory, IsPossible, state_after, touch_count}
+use Rattle.k_laws.specs.k_types.Trace.{Trace, IsHeap, segment_of, segment_count}
+use Rattle.k_laws.proofs.Histories.{legal_rest, state_next}
 use Rattle.k_tie.proofs.NameTests.{heap_eq_refl}
-use Rattle.k_locality.proofs.Tails.{local_touches, book_after}
-use Rattle.k_locality.proofs.SameRead.{owners_same}
+use Rattle.k_laws.proofs.Tails.{local_touches, book_after}
+use Rattle.k_laws.proofs.SameRead.{owners_same}
 use Rattle.k_tie.specs.Rule.{total_of}
 use Rattle.k_tie.specs.Values.{JournalValue, NoteValue}
 use Rattle.k_agree.specs.Committing.{journal_after, note_after}
@@ -46,7 +46,7 @@ record IsOwn (trace : Trace) (p : ℕ) (st : State) (event : Event) (rest : List
 is_own : (trace : Trace) (p : ℕ) (st : State) (event : Event) (rest : List Event) → AreLocal trace p st (event ∷ rest) → IsPossible trace st event → IsOwn trace p st event rest
 unfolding step
 is_own trace p st (Done pid op said) rest l may =
-    let here = ap (λ q. Rattle.k_locality.specs.k_types.Local.is_local st q op) l.0 ∙ l.1 in
+    let here = ap (λ q. Rattle.k_laws.specs.k_types.Local.is_local st q op) l.0 ∙ l.1 in
     record {
       alone = λ c. local_touches trace st pid op said c may.known may.lives here ∙ ap (λ q. heap_eq (user q) c) l.0;
       book = book_after trace pid.0 st op may.known may.lives here;
@@ -89,7 +89,7 @@ module _ (trace : Trace) (journal : JournalValue) (p : ℕ) (note : NoteValue) (
   totals c there =
       let before = b.totals c there in
       let count = next_count trace journal event c in
-      let one = ap (λ m. Rattle.k_tie.specs.k_base.Counts.one_if_same m (segment_of trace c)) a.number ∙ one_number trace (user p) c a.there there in
+      let one = ap (λ m. Rattle.k_tie.specs.k_types.Counts.one_if_same m (segment_of trace c)) a.number ∙ one_number trace (user p) c a.there there in
       let is : ◌≡◌ {A = ℕ} (cond (touches trace now event c) 1 0) (cond (heap_eq (user p) c) 1 0) = ap (λ b. cond b 1 0) (own.alone c) in
       omega (arith, before, count, one, is)
 

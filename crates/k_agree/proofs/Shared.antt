@@ -2,31 +2,31 @@
 use Rattle.std.proofs.Common.{◌≡◌, ℕ, ◌==◌, ◌||◌, ◌&&◌, not, Bool, true, false, cond, refl, sym, ap, ap₂, ◌∙◌, inl, inr, List, [], ◌∷◌, filter, count_by, Option, Some, None, eq-eqb}
 use Rattle.std.specs.List.{list_any}
 use Rattle.std.proofs.lemmas.Bool.{or_cases, or_left, or_right, and_from, and_parts, false≢true}
-use Rattle.k_locality.specs.k_types.declared.names.CellPhase.TheVariants.{Marked}
-use Rattle.k_locality.specs.k_types.declared.names.Heap.{Heap}
-use Rattle.k_locality.specs.k_types.declared.names.Heap.TheVariants.{Kernel}
-use Rattle.k_locality.specs.k_types.declared.names.Name.{Name}
-use Rattle.k_locality.specs.k_types.Agree.{BookValue, CellValue}
-use Rattle.k_locality.specs.k_types.Cells.{BookPart, ShownPart, part, book_part}
-use Rattle.k_locality.specs.k_types.Effects.{exit_stays, share_stays, open_roots, register_lies_in, registers_of, lies_in}
-use Rattle.k_locality.specs.k_types.Names.{heap_eq, name_eq, name_among}
-use Rattle.k_locality.specs.k_types.Numbers.{numbers_below}
-use Rattle.k_locality.specs.k_types.Owners.{owner_of, user, shared, phase_of}
-use Rattle.k_locality.specs.k_types.Replies.{is_populating}
-use Rattle.k_locality.specs.k_types.Sound.{IsSound}
-use Rattle.k_locality.specs.k_types.State.{State, ExitItem, Sharing, has_exit, has_share, refers}
-use Rattle.k_locality.specs.k_types.Steps.{MayEnd}
-use Rattle.k_locality.specs.k_types.Totals.{total}
-use Rattle.k_locality.specs.k_types.Trace.{Trace}
+use Rattle.k_laws.specs.k_types.declared.names.CellPhase.TheVariants.{Marked}
+use Rattle.k_laws.specs.k_types.declared.names.Heap.{Heap}
+use Rattle.k_laws.specs.k_types.declared.names.Heap.TheVariants.{Kernel}
+use Rattle.k_laws.specs.k_types.declared.names.Name.{Name}
+use Rattle.k_laws.specs.k_types.Agree.{BookValue, CellValue}
+use Rattle.k_laws.specs.k_types.Cells.{BookPart, ShownPart, part, book_part}
+use Rattle.k_laws.specs.k_types.Effects.{exit_stays, share_stays, open_roots, register_lies_in, registers_of, lies_in}
+use Rattle.k_laws.specs.k_types.Names.{heap_eq, name_eq, name_among}
+use Rattle.k_laws.specs.k_types.Numbers.{numbers_below}
+use Rattle.k_laws.specs.k_types.Owners.{owner_of, user, shared, phase_of}
+use Rattle.k_laws.specs.k_types.Replies.{is_populating}
+use Rattle.k_laws.specs.k_types.Sound.{IsSound}
+use Rattle.k_laws.specs.k_types.State.{State, ExitItem, Sharing, has_exit, has_share, refers}
+use Rattle.k_laws.specs.k_types.Steps.{MayEnd}
+use Rattle.k_laws.specs.k_types.Totals.{total}
+use Rattle.k_laws.specs.k_types.Trace.{Trace}
 use Rattle.k_tie.proofs.NameTests.{name_eq-true, name_eq_refl, heap_eq_refl}
 use Rattle.k_tie.proofs.Sums.{bit, sum_same, sum-filter, zeros, count_is_total, not_or_bit}
 use Rattle.k_tie.proofs.Tests.{same_test}
-use Rattle.k_locality.proofs.Means.{reach_is}
-use Rattle.k_locality.proofs.Turned.{some_element}
-use Rattle.k_locality.specs.Distinct.{AreDistinctNames}
-use Rattle.k_locality.specs.BookChanges.{has_way_into, leads_into, registers_in}
-use Rattle.k_locality.proofs.SharedSums.{shares_sum}
-use Rattle.k_locality.proofs.WaysInto.{share_stays_so}
+use Rattle.k_laws.proofs.Means.{reach_is}
+use Rattle.k_laws.proofs.Turned.{some_element}
+use Rattle.k_laws.specs.k_types.Distinct.{AreDistinctNames}
+use Rattle.k_laws.specs.BookChanges.{has_way_into, leads_into, registers_in}
+use Rattle.k_laws.proofs.SharedSums.{shares_sum}
+use Rattle.k_laws.proofs.WaysInto.{share_stays_so}
 use Rattle.k_agree.specs.Agreement.{Shows, BookShows}
 use Rattle.k_agree.specs.Ending.{keeps_way, dropped_shares, freed_objects, freed_bytes, dropped_exits, TellsItsShares}
 use Rattle.k_agree.proofs.Swept.{among_kept, marks, reached, reached_state, exits_are, black_exit, shows_end}
@@ -51,7 +51,7 @@ register_same trace st t (Some n) = refl
 
 module _ (trace : Trace) (st : State) (p : ℕ) (value : CellValue) (book : BookValue) (sound : IsSound trace st) (seen : BookShows trace st book) (shows : Shows trace st (user p) value)
     (phase : value.collection ≡ Marked) (distinct : AreDistinctNames value.exits) where
-  here : List Rattle.k_locality.specs.k_types.State.Object
+  here : List Rattle.k_laws.specs.k_types.State.Object
   here = reached trace st (user p) value sound shows phase distinct
 
   left : List Name

@@ -3,26 +3,26 @@ use Rattle.std.proofs.Common.{◌≡◌, ℕ, ◌+◌, ◌||◌, ◌&&◌, not, 
 use Rattle.std.specs.List.{list_any}
 use Rattle.std.proofs.Math.Path.{fun_ext}
 use Rattle.std.proofs.lemmas.Bool.{or_left, or_right, not_from_false}
-use Rattle.k_locality.specs.k_types.declared.names.CellPhase.TheVariants.{Marked}
-use Rattle.k_locality.specs.k_types.declared.names.Name.{Name}
-use Rattle.k_locality.specs.k_types.Agree.{CellValue, AreMarks, shown_by}
-use Rattle.k_locality.specs.k_types.Cells.{Cell, CellPart, ShownPart, part, shown}
-use Rattle.k_locality.specs.k_types.Effects.{after_ended, survives, exit_stays, open_roots}
-use Rattle.k_locality.specs.k_types.Names.{heap_eq, name_eq, name_among}
-use Rattle.k_locality.specs.k_types.Owners.{owner_of, objects_of, object_bytes}
-use Rattle.k_locality.specs.k_types.Reach.{reach_among}
-use Rattle.k_locality.specs.k_types.Sound.{IsSound}
-use Rattle.k_locality.specs.k_types.State.{State, Object, ExitItem, has, has_exit, refers, scan_of}
-use Rattle.k_locality.specs.k_types.Totals.{total}
-use Rattle.k_locality.specs.k_types.Trace.{Trace}
+use Rattle.k_laws.specs.k_types.declared.names.CellPhase.TheVariants.{Marked}
+use Rattle.k_laws.specs.k_types.declared.names.Name.{Name}
+use Rattle.k_laws.specs.k_types.Agree.{CellValue, AreMarks, shown_by}
+use Rattle.k_laws.specs.k_types.Cells.{Cell, CellPart, ShownPart, part, shown}
+use Rattle.k_laws.specs.k_types.Effects.{after_ended, survives, exit_stays, open_roots}
+use Rattle.k_laws.specs.k_types.Names.{heap_eq, name_eq, name_among}
+use Rattle.k_laws.specs.k_types.Owners.{owner_of, objects_of, object_bytes}
+use Rattle.k_laws.specs.k_types.Reach.{reach_among}
+use Rattle.k_laws.specs.k_types.Sound.{IsSound}
+use Rattle.k_laws.specs.k_types.State.{State, Object, ExitItem, has, has_exit, refers, scan_of}
+use Rattle.k_laws.specs.k_types.Totals.{total}
+use Rattle.k_laws.specs.k_types.Trace.{Trace}
 use Rattle.k_tie.proofs.NameTests.{name_eq-true, name_eq_refl, heap_eq_sym}
 use Rattle.k_tie.proofs.Objects.{has-kept}
 use Rattle.k_tie.proofs.Sums.{bit, sum_same, not_or_bit, count_is_total}
-use Rattle.k_locality.proofs.Means.{reach_is}
-use Rattle.k_locality.specs.Distinct.{AreDistinctNames}
-use Rattle.k_locality.proofs.Distinct.{targets_sum}
-use Rattle.k_locality.specs.CellChanges.{collected, reached_in}
-use Rattle.k_locality.proofs.Collected.{ended_on_cell}
+use Rattle.k_laws.proofs.Means.{reach_is}
+use Rattle.k_laws.specs.k_types.Distinct.{AreDistinctNames}
+use Rattle.k_laws.proofs.Distinct.{targets_sum}
+use Rattle.k_laws.specs.CellChanges.{collected, reached_in}
+use Rattle.k_laws.proofs.Collected.{ended_on_cell}
 use Rattle.k_agree.specs.Agreement.{Shows}
 use Rattle.k_agree.specs.Ending.{swept, dropped_exits, ShowsItsEnd}
 use Rattle.k_tie.proofs.Lists.{both_kept}

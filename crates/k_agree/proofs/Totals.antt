@@ -2,16 +2,16 @@
 use Rattle.std.proofs.Common.{◌≡◌, ℕ, ◌+◌, ◌||◌, Bool, true, false, cond, refl, sym, ap, ◌∙◌, List, [], ◌∷◌, arith, ne_eqb, eq-eqb}
 use Rattle.std.specs.List.{AllByRecursion}
 use Rattle.std.proofs.lemmas.Bool.{false≢true}
-use Rattle.k_locality.specs.k_types.declared.event.Event.{Event}
-use Rattle.k_locality.specs.k_types.declared.names.Heap.TheVariants.{Kernel, User, Shared}
-use Rattle.k_locality.specs.k_types.Cells.{Cell}
-use Rattle.k_locality.specs.k_types.Names.{heap_eq}
-use Rattle.k_locality.specs.k_types.Trace.{Trace, IsHeap, segment_of}
+use Rattle.k_laws.specs.k_types.declared.event.Event.{Event}
+use Rattle.k_laws.specs.k_types.declared.names.Heap.TheVariants.{Kernel, User, Shared}
+use Rattle.k_laws.specs.k_types.Cells.{Cell}
+use Rattle.k_laws.specs.k_types.Names.{heap_eq}
+use Rattle.k_laws.specs.k_types.Trace.{Trace, IsHeap, segment_of}
 use Rattle.k_tie.proofs.NameTests.{heap_eq-true, heap_eq_refl}
 use Rattle.k_tie.specs.Rule.{total_of}
 use Rattle.k_tie.specs.Values.{JournalValue}
 use Rattle.k_agree.specs.Committing.{NotedCell, cells_of, numbers_of, cell_among, AreDistinctCells, touches_after, IsReady}
-use Rattle.k_tie.specs.k_base.Counts.{one_if_same}
+use Rattle.k_tie.specs.k_types.Counts.{one_if_same}
 
 -- cells of one number are one
 pub same_number : (trace : Trace) (a b : Cell) → IsHeap trace a → IsHeap trace b → segment_of trace a ≡ segment_of trace b → a ≡ b

@@ -1,23 +1,23 @@
 -- The end of a collection, as the cell's value shows it.
 use Rattle.std.specs.Prelude.{◌≡◌, ℕ, ◌+◌, ◌-◌, ◌==◌, ◌&&◌, ◌||◌, not, slice_index_or, slice_set, List, Bool, [], filter, length, count_by, IsTrue, if◌then◌else◌}
 use Rattle.std.specs.List.{list_any}
-use Rattle.k_locality.specs.k_types.declared.names.Heap.{Heap}
-use Rattle.k_locality.specs.k_types.declared.names.Name.{Name}
-use Rattle.k_locality.specs.k_types.declared.names.CellPhase.TheVariants.{Idle}
-use Rattle.k_locality.specs.k_types.Agree.{BookValue, CellValue}
-use Rattle.k_locality.specs.k_types.Counted.{counted}
-use Rattle.k_locality.specs.k_types.Cells.{Cell, part, book_part}
-use Rattle.k_locality.specs.k_types.Effects.{after_ended, survives, exit_stays, share_stays}
-use Rattle.k_locality.specs.k_types.Names.{heap_eq, name_among}
-use Rattle.k_locality.specs.k_types.Numbers.{numbers_below}
-use Rattle.k_locality.specs.k_types.Owners.{object_bytes, owner_of, phase_of, shared, user}
-use Rattle.k_locality.specs.k_types.Replies.{is_populating}
-use Rattle.k_locality.specs.k_types.State.{State, has_share, is_scanned}
-use Rattle.k_locality.specs.k_types.Steps.{MayEnd}
-use Rattle.k_locality.specs.k_types.Totals.{total}
-use Rattle.k_locality.specs.k_types.Trace.{Trace, limit_of}
-use Rattle.k_locality.specs.Counts.{one_if}
-use Rattle.k_locality.specs.BookChanges.{has_way_into, leads_into, registers_in}
+use Rattle.k_laws.specs.k_types.declared.names.Heap.{Heap}
+use Rattle.k_laws.specs.k_types.declared.names.Name.{Name}
+use Rattle.k_laws.specs.k_types.declared.names.CellPhase.TheVariants.{Idle}
+use Rattle.k_laws.specs.k_types.Agree.{BookValue, CellValue}
+use Rattle.k_laws.specs.k_types.Counted.{counted}
+use Rattle.k_laws.specs.k_types.Cells.{Cell, part, book_part}
+use Rattle.k_laws.specs.k_types.Effects.{after_ended, survives, exit_stays, share_stays}
+use Rattle.k_laws.specs.k_types.Names.{heap_eq, name_among}
+use Rattle.k_laws.specs.k_types.Numbers.{numbers_below}
+use Rattle.k_laws.specs.k_types.Owners.{object_bytes, owner_of, phase_of, shared, user}
+use Rattle.k_laws.specs.k_types.Replies.{is_populating}
+use Rattle.k_laws.specs.k_types.State.{State, has_share, is_scanned}
+use Rattle.k_laws.specs.k_types.Steps.{MayEnd}
+use Rattle.k_laws.specs.k_types.Totals.{total}
+use Rattle.k_laws.specs.k_types.Trace.{Trace, limit_of}
+use Rattle.k_laws.specs.Counts.{one_if}
+use Rattle.k_laws.specs.BookChanges.{has_way_into, leads_into, registers_in}
 use Rattle.k_agree.specs.Agreement.{Shows}
 
 -- the cell with its black objects and exit items alone, and no marks

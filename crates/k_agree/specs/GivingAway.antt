@@ -1,13 +1,13 @@
 -- A heap that becomes the kernel's, by the end of its process or by an absorption.
 use Rattle.std.specs.Prelude.{◌≡◌, ℕ, ◌&&◌, ◌||◌, not, [], slice_index_or, Some, None, option_map}
-use Rattle.k_locality.specs.k_types.declared.names.Heap.{Heap}
-use Rattle.k_locality.specs.k_types.declared.names.Name.{Name}
-use Rattle.k_locality.specs.k_types.declared.names.Phase.TheVariants.{Absorbed}
-use Rattle.k_locality.specs.k_types.Agree.{CellValue}
-use Rattle.k_locality.specs.k_types.Names.{heap_eq, name_among}
-use Rattle.k_locality.specs.PartUpdates.{process_with_done}
-use Rattle.k_locality.specs.k_types.Reach.{is_shared_heap}
-use Rattle.k_locality.specs.CellChanges.{either_of, ended_process, with_objects}
+use Rattle.k_laws.specs.k_types.declared.names.Heap.{Heap}
+use Rattle.k_laws.specs.k_types.declared.names.Name.{Name}
+use Rattle.k_laws.specs.k_types.declared.names.Phase.TheVariants.{Absorbed}
+use Rattle.k_laws.specs.k_types.Agree.{CellValue}
+use Rattle.k_laws.specs.k_types.Names.{heap_eq, name_among}
+use Rattle.k_laws.specs.PartUpdates.{process_with_done}
+use Rattle.k_laws.specs.k_types.Reach.{is_shared_heap}
+use Rattle.k_laws.specs.CellChanges.{either_of, ended_process, with_objects}
 
 -- the cell has nothing left
 abbrev pub emptied : CellValue → CellValue

@@ -1,22 +1,22 @@
 -- The book's value when a heap becomes the kernel's, by the end of its process or by an absorption. What changes is in the order in
 -- which code changes it; the values between are those after each drain.
 use Rattle.std.specs.Prelude.{◌≡◌, ℕ, ◌+◌, ◌-◌, ◌==◌, ◌&&◌, ◌||◌, not, List, filter, slice_index_or, slice_set, Option, if◌then◌else◌}
-use Rattle.k_locality.specs.k_types.declared.names.Heap.{Heap}
-use Rattle.k_locality.specs.k_types.declared.names.Heap.TheVariants.{Kernel}
-use Rattle.k_locality.specs.k_types.declared.names.Name.{Name}
-use Rattle.k_locality.specs.k_types.declared.names.Phase.TheVariants.{Absorbed}
-use Rattle.k_locality.specs.k_types.Agree.{BookValue, CellValue}
-use Rattle.k_locality.specs.k_types.Counted.{counted}
-use Rattle.k_locality.specs.k_types.Cells.{pins_of}
-use Rattle.k_locality.specs.k_types.Names.{among, heap_eq, name_among}
-use Rattle.k_locality.specs.k_types.Numbers.{numbers_below}
-use Rattle.k_locality.specs.k_types.Owners.{object_bytes, shared, user}
-use Rattle.k_locality.specs.k_types.Reach.{is_shared_heap}
-use Rattle.k_locality.specs.k_types.State.{has_share}
-use Rattle.k_locality.specs.k_types.Totals.{total}
-use Rattle.k_locality.specs.k_types.Trace.{Trace, limit_of, segment_of}
-use Rattle.k_locality.specs.Counts.{one_if}
-use Rattle.k_locality.specs.BookChanges.{registers_in}
+use Rattle.k_laws.specs.k_types.declared.names.Heap.{Heap}
+use Rattle.k_laws.specs.k_types.declared.names.Heap.TheVariants.{Kernel}
+use Rattle.k_laws.specs.k_types.declared.names.Name.{Name}
+use Rattle.k_laws.specs.k_types.declared.names.Phase.TheVariants.{Absorbed}
+use Rattle.k_laws.specs.k_types.Agree.{BookValue, CellValue}
+use Rattle.k_laws.specs.k_types.Counted.{counted}
+use Rattle.k_laws.specs.k_types.Cells.{pins_of}
+use Rattle.k_laws.specs.k_types.Names.{among, heap_eq, name_among}
+use Rattle.k_laws.specs.k_types.Numbers.{numbers_below}
+use Rattle.k_laws.specs.k_types.Owners.{object_bytes, shared, user}
+use Rattle.k_laws.specs.k_types.Reach.{is_shared_heap}
+use Rattle.k_laws.specs.k_types.State.{has_share}
+use Rattle.k_laws.specs.k_types.Totals.{total}
+use Rattle.k_laws.specs.k_types.Trace.{Trace, limit_of, segment_of}
+use Rattle.k_laws.specs.Counts.{one_if}
+use Rattle.k_laws.specs.BookChanges.{registers_in}
 use Rattle.k_agree.specs.Ending.{HasLeft}
 
 -- the exit items of the cell into the heap g

@@ -1,18 +1,18 @@
 -- For each state, values that show it.
 use Rattle.std.specs.Prelude.{ℕ, List, [], ◌∷◌, ◌++◌, map, filter, length, slice_index_or, Option, Some, None, unwrap_or, if◌then◌else◌}
-use Rattle.k_locality.specs.k_types.declared.names.CellPhase.{CellPhase}
-use Rattle.k_locality.specs.k_types.declared.names.CellPhase.TheVariants.{Idle, Begun}
-use Rattle.k_locality.specs.k_types.declared.names.Heap.{Heap}
-use Rattle.k_locality.specs.k_types.declared.names.Name.{Name}
-use Rattle.k_locality.specs.k_types.Agree.{BookValue, CellValue}
-use Rattle.k_locality.specs.k_types.Counted.{Counted}
-use Rattle.k_locality.specs.k_types.Cells.{Cell, made_of, phase_shown, process_of}
-use Rattle.k_locality.specs.k_types.Limits.{direct_by}
-use Rattle.k_locality.specs.k_types.Names.{heap_eq}
-use Rattle.k_locality.specs.k_types.Numbers.{numbers_below}
-use Rattle.k_locality.specs.k_types.Owners.{bytes_of, charge_of, objects_of, owner_of, shared, user}
-use Rattle.k_locality.specs.k_types.State.{State, ExitItem, scan_of}
-use Rattle.k_locality.specs.k_types.Trace.{Trace, process_count, segment_count}
+use Rattle.k_laws.specs.k_types.declared.names.CellPhase.{CellPhase}
+use Rattle.k_laws.specs.k_types.declared.names.CellPhase.TheVariants.{Idle, Begun}
+use Rattle.k_laws.specs.k_types.declared.names.Heap.{Heap}
+use Rattle.k_laws.specs.k_types.declared.names.Name.{Name}
+use Rattle.k_laws.specs.k_types.Agree.{BookValue, CellValue}
+use Rattle.k_laws.specs.k_types.Counted.{Counted}
+use Rattle.k_laws.specs.k_types.Cells.{Cell, made_of, phase_shown, process_of}
+use Rattle.k_laws.specs.k_types.Limits.{direct_by}
+use Rattle.k_laws.specs.k_types.Names.{heap_eq}
+use Rattle.k_laws.specs.k_types.Numbers.{numbers_below}
+use Rattle.k_laws.specs.k_types.Owners.{bytes_of, charge_of, objects_of, owner_of, shared, user}
+use Rattle.k_laws.specs.k_types.State.{State, ExitItem, scan_of}
+use Rattle.k_laws.specs.k_types.Trace.{Trace, process_count, segment_count}
 
 -- the targets of the heap's exit items
 abbrev pub targets_of : Heap → List ExitItem → List Name

@@ -4,14 +4,14 @@ ghost use Rattle.k_agree.specs.Agreement.{Agrees, BookAgrees};
 ghost use Rattle.k_agree.specs.Committing.{AreDistinctCells, cell_among, CanCommit, IsCommitted, NotedCell};
 ghost use Rattle.k_agree.specs.Publishing.{PublishesAll, PublishesItsOldest};
 ghost use Rattle.k_tie.specs.Values.{JournalValue, NoteValue};
-ghost use Rattle.k_locality.specs.k_types.Agree.{BookValue, CellValue};
-ghost use Rattle.k_locality.specs.k_types.Cells.{Cell, cells_touched, touches};
-ghost use Rattle.k_locality.specs.k_types.Owners.{user};
-ghost use Rattle.k_locality.specs.k_types.State.{State};
-ghost use Rattle.k_locality.specs.k_types.Trace.{Trace};
-ghost use Rattle.k_locality.specs.k_types.declared.event.Event.{Event};
-ghost use Rattle.k_locality.specs.k_types.TraceRules.{AreLimits};
-ghost use Rattle.k_locality.specs.k_types.Steps.{IsPossible};
+ghost use Rattle.k_laws.specs.k_types.Agree.{BookValue, CellValue};
+ghost use Rattle.k_laws.specs.k_types.Cells.{Cell, cells_touched, touches};
+ghost use Rattle.k_laws.specs.k_types.Owners.{user};
+ghost use Rattle.k_laws.specs.k_types.State.{State};
+ghost use Rattle.k_laws.specs.k_types.Trace.{Trace};
+ghost use Rattle.k_laws.specs.k_types.declared.event.Event.{Event};
+ghost use Rattle.k_laws.specs.k_types.TraceRules.{AreLimits};
+ghost use Rattle.k_laws.specs.k_types.Steps.{IsPossible};
 
 /// An event touches one cell or two, or three where a process ends another, and none twice. So a list of the cells that it touches,
 /// in the order in which the machine names them, is what `touched_cells_commit` asks for.

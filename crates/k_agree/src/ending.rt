@@ -2,20 +2,20 @@
 ghost use Rattle.std.specs.Prelude.{IsFalse, List, [], ◌∷◌, ◌≡◌, ℕ};
 ghost use Rattle.k_agree.specs.Agreement.{BookShows, Shows};
 ghost use Rattle.k_agree.specs.Ending.{HasLeft, HasSettledWith, ShowsItsEnd, TellsItsShares, dropped, dropped_exits, freed_bytes, freed_objects};
-ghost use Rattle.k_locality.specs.Distinct.{AreDistinctNames};
-ghost use Rattle.k_locality.specs.k_types.Agree.{BookValue, CellValue};
-ghost use Rattle.k_locality.specs.k_types.Cells.{Cell};
-ghost use Rattle.k_locality.specs.k_types.Effects.{after_ended};
-ghost use Rattle.k_locality.specs.k_types.Names.{name_among};
-ghost use Rattle.k_locality.specs.k_types.Owners.{owner_of, user};
-ghost use Rattle.k_locality.specs.k_types.Sound.{IsSound};
-ghost use Rattle.k_locality.specs.k_types.State.{State};
-ghost use Rattle.k_locality.specs.k_types.Steps.{MayEnd};
-ghost use Rattle.k_locality.specs.k_types.Trace.{Trace};
-ghost use Rattle.k_locality.specs.k_types.TraceRules.{AreLimits};
-ghost use Rattle.k_locality.specs.k_types.declared.names.CellPhase.TheVariants.{Marked};
-ghost use Rattle.k_locality.specs.k_types.declared.names.Heap.TheVariants.{Kernel};
-ghost use Rattle.k_locality.specs.k_types.declared.names.Name.{Name};
+ghost use Rattle.k_laws.specs.k_types.Distinct.{AreDistinctNames};
+ghost use Rattle.k_laws.specs.k_types.Agree.{BookValue, CellValue};
+ghost use Rattle.k_laws.specs.k_types.Cells.{Cell};
+ghost use Rattle.k_laws.specs.k_types.Effects.{after_ended};
+ghost use Rattle.k_laws.specs.k_types.Names.{name_among};
+ghost use Rattle.k_laws.specs.k_types.Owners.{owner_of, user};
+ghost use Rattle.k_laws.specs.k_types.Sound.{IsSound};
+ghost use Rattle.k_laws.specs.k_types.State.{State};
+ghost use Rattle.k_laws.specs.k_types.Steps.{MayEnd};
+ghost use Rattle.k_laws.specs.k_types.Trace.{Trace};
+ghost use Rattle.k_laws.specs.k_types.TraceRules.{AreLimits};
+ghost use Rattle.k_laws.specs.k_types.declared.names.CellPhase.TheVariants.{Marked};
+ghost use Rattle.k_laws.specs.k_types.declared.names.Heap.TheVariants.{Kernel};
+ghost use Rattle.k_laws.specs.k_types.declared.names.Name.{Name};
 
 /// A marked cell knows the end of its collection: without what is not black it shows the state after it, and it has the numbers of
 /// objects, bytes and exit items that go. No exit item of the cell stands twice.

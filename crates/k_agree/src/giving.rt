@@ -2,24 +2,24 @@
 ghost use Rattle.std.specs.Prelude.{[], ◌++◌, ◌∷◌, ◌≡◌, ℕ, IsTrue};
 ghost use Rattle.k_agree.specs.Agreement.{BookAgrees, Shows};
 ghost use Rattle.k_agree.specs.GivingAway.{HasTakenIn, absorbed_cell, ended_cell, with_one_done};
-ghost use Rattle.k_locality.specs.Changes.{MayAbsorb, MayExit};
+ghost use Rattle.k_laws.specs.Changes.{MayAbsorb, MayExit};
 ghost use Rattle.k_tie.specs.Values.{JournalValue};
-ghost use Rattle.k_locality.specs.k_types.Agree.{BookValue, CellValue};
-ghost use Rattle.k_locality.specs.k_types.Effects.{after_absorbed, after_end_of};
-ghost use Rattle.k_locality.specs.k_types.Owners.{owner_of, shared, user};
-ghost use Rattle.k_locality.specs.k_types.Sound.{IsSound};
-ghost use Rattle.k_locality.specs.k_types.State.{State};
-ghost use Rattle.k_locality.specs.k_types.Steps.{IsPossible, state_after};
-ghost use Rattle.k_locality.specs.k_types.Trace.{Trace};
-ghost use Rattle.k_locality.specs.k_types.TraceRules.{AreLimits};
-ghost use Rattle.k_locality.specs.k_types.declared.event.Event.TheVariants.{Absorbed, Done};
-ghost use Rattle.k_locality.specs.k_types.declared.event.Reply.{Reply};
-ghost use Rattle.k_locality.specs.k_types.declared.names.CellPhase.TheVariants.{Idle};
-ghost use Rattle.k_locality.specs.k_types.declared.names.Heap.TheVariants.{Kernel};
-ghost use Rattle.k_locality.specs.k_types.declared.names.Pid.{Pid};
-ghost use Rattle.k_locality.specs.k_types.declared.names.SharedId.{SharedId};
-ghost use Rattle.k_locality.specs.k_types.declared.op.Op.TheVariants.{Exit, Kill};
-ghost use Rattle.k_locality.specs.k_types.Replies.{ends_other};
+ghost use Rattle.k_laws.specs.k_types.Agree.{BookValue, CellValue};
+ghost use Rattle.k_laws.specs.k_types.Effects.{after_absorbed, after_end_of};
+ghost use Rattle.k_laws.specs.k_types.Owners.{owner_of, shared, user};
+ghost use Rattle.k_laws.specs.k_types.Sound.{IsSound};
+ghost use Rattle.k_laws.specs.k_types.State.{State};
+ghost use Rattle.k_laws.specs.k_types.Steps.{IsPossible, state_after};
+ghost use Rattle.k_laws.specs.k_types.Trace.{Trace};
+ghost use Rattle.k_laws.specs.k_types.TraceRules.{AreLimits};
+ghost use Rattle.k_laws.specs.k_types.declared.event.Event.TheVariants.{Absorbed, Done};
+ghost use Rattle.k_laws.specs.k_types.declared.event.Reply.{Reply};
+ghost use Rattle.k_laws.specs.k_types.declared.names.CellPhase.TheVariants.{Idle};
+ghost use Rattle.k_laws.specs.k_types.declared.names.Heap.TheVariants.{Kernel};
+ghost use Rattle.k_laws.specs.k_types.declared.names.Pid.{Pid};
+ghost use Rattle.k_laws.specs.k_types.declared.names.SharedId.{SharedId};
+ghost use Rattle.k_laws.specs.k_types.declared.op.Op.TheVariants.{Exit, Kill};
+ghost use Rattle.k_laws.specs.k_types.Replies.{ends_other};
 
 /// At the end of a process its cell is emptied and the kernel's has taken in what was there. No collection of either is open.
 pub fn cells_show_the_end_of_a_process()

@@ -3,18 +3,18 @@ ghost use Rattle.std.specs.Prelude.{List, Some, ◌≡◌};
 ghost use Rattle.k_agree.specs.Agreement.{Agrees, BookShows, Shows};
 ghost use Rattle.k_agree.specs.Marking.{AreReached, begun, heap_begun_by, marked, roots_seen};
 ghost use Rattle.k_tie.specs.Values.{NoteValue};
-ghost use Rattle.k_locality.specs.k_types.Agree.{AreMarks, BookValue, CellValue};
-ghost use Rattle.k_locality.specs.k_types.Cells.{Cell};
-ghost use Rattle.k_locality.specs.k_types.Effects.{step};
-ghost use Rattle.k_locality.specs.k_types.Names.{name_among};
-ghost use Rattle.k_locality.specs.k_types.Sound.{IsSound};
-ghost use Rattle.k_locality.specs.k_types.State.{State, scan_of};
-ghost use Rattle.k_locality.specs.k_types.Trace.{Trace};
-ghost use Rattle.k_locality.specs.k_types.TraceRules.{AreLimits};
-ghost use Rattle.k_locality.specs.k_types.declared.event.Event.{Event};
-ghost use Rattle.k_locality.specs.k_types.declared.names.CellPhase.TheVariants.{Begun};
-ghost use Rattle.k_locality.specs.k_types.declared.names.Heap.{Heap};
-ghost use Rattle.k_locality.specs.k_types.declared.names.Name.{Name};
+ghost use Rattle.k_laws.specs.k_types.Agree.{AreMarks, BookValue, CellValue};
+ghost use Rattle.k_laws.specs.k_types.Cells.{Cell};
+ghost use Rattle.k_laws.specs.k_types.Effects.{step};
+ghost use Rattle.k_laws.specs.k_types.Names.{name_among};
+ghost use Rattle.k_laws.specs.k_types.Sound.{IsSound};
+ghost use Rattle.k_laws.specs.k_types.State.{State, scan_of};
+ghost use Rattle.k_laws.specs.k_types.Trace.{Trace};
+ghost use Rattle.k_laws.specs.k_types.TraceRules.{AreLimits};
+ghost use Rattle.k_laws.specs.k_types.declared.event.Event.{Event};
+ghost use Rattle.k_laws.specs.k_types.declared.names.CellPhase.TheVariants.{Begun};
+ghost use Rattle.k_laws.specs.k_types.declared.names.Heap.{Heap};
+ghost use Rattle.k_laws.specs.k_types.declared.names.Name.{Name};
 
 /// Where an event begins a collection, the marks are right once just those objects are gray that the cell and the book tell to be
 /// roots, whatever else the event changes in the cell.

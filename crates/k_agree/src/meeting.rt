@@ -2,9 +2,9 @@
 ghost use Rattle.k_agree.specs.Agreement.{Agrees, BookAgrees};
 ghost use Rattle.k_agree.specs.Meeting.{Fits, ShowsTheJournal};
 ghost use Rattle.k_tie.specs.Values.{JournalValue, NoteValue};
-ghost use Rattle.k_locality.specs.k_types.Agree.{BookValue, CellValue};
-ghost use Rattle.k_locality.specs.k_types.Cells.{Cell};
-ghost use Rattle.k_locality.specs.k_types.Trace.{Trace};
+ghost use Rattle.k_laws.specs.k_types.Agree.{BookValue, CellValue};
+ghost use Rattle.k_laws.specs.k_types.Cells.{Cell};
+ghost use Rattle.k_laws.specs.k_types.Trace.{Trace};
 
 /// A cell that agrees with its note shows the whole journal once the note fits it, in any phase of its collection and with any
 /// unpublished events: nothing has touched it since.

@@ -4,12 +4,12 @@ ghost use Rattle.atomic_table.specs.Seated.{TableId};
 ghost use Rattle.k_agree.specs.Agreement.{Agrees, BookAgrees, BookShows};
 ghost use Rattle.k_agree.specs.Opening.{opening_book, opening_cell};
 ghost use Rattle.k_tie.specs.Values.{blank_note, empty_journal};
-ghost use Rattle.k_locality.specs.k_types.Agree.{BookValue};
-ghost use Rattle.k_locality.specs.k_types.Cells.{Cell};
-ghost use Rattle.k_locality.specs.k_types.Owners.{owner_of};
-ghost use Rattle.k_locality.specs.k_types.State.{State};
-ghost use Rattle.k_locality.specs.k_types.Trace.{IsHeap, Trace, segment_count, segment_of};
-ghost use Rattle.k_locality.specs.k_types.declared.names.Heap.TheVariants.{Kernel};
+ghost use Rattle.k_laws.specs.k_types.Agree.{BookValue};
+ghost use Rattle.k_laws.specs.k_types.Cells.{Cell};
+ghost use Rattle.k_laws.specs.k_types.Owners.{owner_of};
+ghost use Rattle.k_laws.specs.k_types.State.{State};
+ghost use Rattle.k_laws.specs.k_types.Trace.{IsHeap, Trace, segment_count, segment_of};
+ghost use Rattle.k_laws.specs.k_types.declared.names.Heap.TheVariants.{Kernel};
 
 /// Before the first event each cell of the trace agrees with its note, and the book with the empty journal.
 pub fn opened_parts_agree()

@@ -4,17 +4,17 @@ ghost use Rattle.k_agree.specs.Agreement.{Agrees, BookAgrees};
 ghost use Rattle.k_agree.specs.Meeting.{Fits};
 ghost use Rattle.k_agree.specs.Rooms.{AreFirst, FitsTheRooms, HasRoomFor, HasRoomOnceMet, IsInTurn, IsNext};
 ghost use Rattle.k_tie.specs.Values.{JournalValue, NoteValue};
-ghost use Rattle.k_locality.specs.k_types.Agree.{BookValue, CellValue};
-ghost use Rattle.k_locality.specs.k_types.Following.{FollowsOwn, FollowsTrace, is_closing};
-ghost use Rattle.k_locality.specs.k_types.Owners.{user};
-ghost use Rattle.k_locality.specs.k_types.Steps.{IsLegalHistory, IsPossible, state_after};
-ghost use Rattle.k_locality.specs.k_types.Trace.{Trace, operations_of, process_count};
-ghost use Rattle.k_locality.specs.k_types.TraceRules.{KeepsRules};
-ghost use Rattle.k_locality.specs.k_types.declared.event.Event.{Event};
-ghost use Rattle.k_locality.specs.k_types.declared.names.Pid.{Pid};
-ghost use Rattle.k_locality.specs.k_types.declared.op.Op.{Op};
+ghost use Rattle.k_laws.specs.k_types.Agree.{BookValue, CellValue};
+ghost use Rattle.k_laws.specs.k_types.Following.{FollowsOwn, FollowsTrace, is_closing};
+ghost use Rattle.k_laws.specs.k_types.Owners.{user};
+ghost use Rattle.k_laws.specs.k_types.Steps.{IsLegalHistory, IsPossible, state_after};
+ghost use Rattle.k_laws.specs.k_types.Trace.{Trace, operations_of, process_count};
+ghost use Rattle.k_laws.specs.k_types.TraceRules.{KeepsRules};
+ghost use Rattle.k_laws.specs.k_types.declared.event.Event.{Event};
+ghost use Rattle.k_laws.specs.k_types.declared.names.Pid.{Pid};
+ghost use Rattle.k_laws.specs.k_types.declared.op.Op.{Op};
 
-use k_locality::{Op, Pid};
+use k_laws::{Op, Pid};
 
 /// A legal history that has the first operations of the trace is within the rooms of the trace, and so it is after one more event
 /// in turn.

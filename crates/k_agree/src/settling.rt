@@ -2,14 +2,14 @@
 ghost use Rattle.k_agree.specs.Agreement.{Agrees, BookAgrees};
 ghost use Rattle.k_agree.specs.Settled.{IsOver};
 ghost use Rattle.k_tie.specs.Values.{JournalValue, NoteValue};
-ghost use Rattle.k_locality.specs.k_types.Agree.{BookValue, CellValue};
-ghost use Rattle.k_locality.specs.k_types.Cells.{Cell};
-ghost use Rattle.k_locality.specs.k_types.Complete.{IsComplete};
+ghost use Rattle.k_laws.specs.k_types.Agree.{BookValue, CellValue};
+ghost use Rattle.k_laws.specs.k_types.Cells.{Cell};
+ghost use Rattle.k_laws.specs.k_types.Complete.{IsComplete};
 ghost use Rattle.std.specs.Prelude.{◌++◌};
-ghost use Rattle.k_locality.specs.k_types.Sound.{IsSound};
-ghost use Rattle.k_locality.specs.k_types.Steps.{state_after};
-ghost use Rattle.k_locality.specs.k_types.Trace.{Trace};
-ghost use Rattle.k_locality.specs.k_types.TraceRules.{AreLimits};
+ghost use Rattle.k_laws.specs.k_types.Sound.{IsSound};
+ghost use Rattle.k_laws.specs.k_types.Steps.{state_after};
+ghost use Rattle.k_laws.specs.k_types.Trace.{Trace};
+ghost use Rattle.k_laws.specs.k_types.TraceRules.{AreLimits};
 
 /// What a cell knows under its own lock is a sound state, and so is what the book knows.
 pub fn agreement_is_with_sound_states()

@@ -19,8 +19,8 @@ use Rattle.k_types.specs.Trace.{process_count}
 use Rattle.k_trace.specs.Named.{NamedTrace}
 use Rattle.k_trace.specs.Rules.{IsTrace}
 use Rattle.k_laws.proofs.SoundSteps.{legal_sound}
-use Rattle.k_known.specs.Fits.{AreAtMostTheSerials, NumbersFit}
-use Rattle.k_known.proofs.Laws.{maxima_fit, numbers_fit, objects_are_at_most_the_serials}
+use Rattle.k_laws.specs.Fits.{AreAtMostTheSerials, NumbersFit}
+use Rattle.k_laws.proofs.KnownLaws.{maxima_fit, numbers_fit, objects_are_at_most_the_serials}
 use Rattle.k_state.specs.Setups.{setup_of}
 use Rattle.k_check.proofs.Lines.{setup_rules}
 use Rattle.k_check.proofs.Unread.{legal_unread, run_unread}

@@ -1,7 +1,7 @@
 //! What the program answers: its commands, its texts, and the commands that run nothing, which check a report or audit a snapshot.
 //!
 //! The contract of the program's top call is stated here, and shown of each command from what the command tells. Its statuses are in
-//! `k_status`. The commands that run a trace are in `k_runner` and `k_top`, and the top call itself is in `k_top`.
+//! `k_status`. The commands that run a trace are in `k_run` and `k_top`, and the top call itself is in `k_top`.
 #![tactic(auto)]
 
 mod auditing;

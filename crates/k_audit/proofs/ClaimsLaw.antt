@@ -9,14 +9,14 @@ use Rattle.k_types.specs.Numbers.{numbers_below, numbers_from}
 use Rattle.k_types.specs.Owners.{bytes_of, charge_of, owner_of}
 use Rattle.k_types.specs.State.{State}
 use Rattle.k_types.specs.Trace.{Trace, process_count}
-use Rattle.k_base.proofs.Numbered.{all_at_below, all_below}
+use Rattle.k_types.proofs.Numbered.{all_at_below, all_below}
 use Rattle.k_audit.specs.Agreeing.{agree, claims_agree, kernel_agrees, owners_agree, shared_bytes}
 use Rattle.k_audit.specs.Claims.{Claims, claims_of}
 use Rattle.k_audit.specs.Grammar.{AreSpelledClaims}
 use Rattle.k_audit.specs.Sums.{UsesFit}
 use Rattle.k_audit.specs.Tests.{use_fits}
 use Rattle.k_audit.proofs.Owners.{owners_law}
-use Rattle.k_base.proofs.Lists.{get_mapped}
+use Rattle.k_types.proofs.Lists.{get_mapped}
 
 pub uses_law : (trace : Trace) (st : State) → (list_all (use_fits trace st) (numbers_below (length trace.limits)) ≡ true) ↔ UsesFit trace st
 uses_law trace st = (

@@ -14,8 +14,8 @@ use Rattle.k_types.specs.Owners.{phase_of}
 use Rattle.k_types.specs.Sound.{HasNoDangling, IsSized}
 use Rattle.k_types.specs.State.{Content, ExitItem, Holds, Object, Refers, State, content_leads_to, has, has_exit, in_registers, refers, refers_in}
 use Rattle.k_types.specs.Trace.{Trace, process_count}
-use Rattle.k_base.proofs.NameTests.{heap_eq-true, heap_eq_refl, name_eq-true, name_eq_refl}
-use Rattle.k_base.proofs.Numbered.{all_at_below, all_below}
+use Rattle.k_types.proofs.NameTests.{heap_eq-true, heap_eq_refl, name_eq-true, name_eq_refl}
+use Rattle.k_types.proofs.Numbered.{all_at_below, all_below}
 use Rattle.k_audit.specs.Tests.{all_registers_there, content_there, is_there, nothing_dangles, object_there, registers_there, root_there, roots_there, target_there}
 use Rattle.k_audit.proofs.Means.{all_say, order, said_of_all, none_scanned}
 

@@ -7,7 +7,7 @@ use Rattle.k_types.specs.declared.names.Name.{Name}
 use Rattle.k_types.specs.Names.{heap_eq, name_eq, name_lt}
 use Rattle.k_types.specs.State.{ExitItem, has_exit}
 use Rattle.k_types.specs.Trace.{Trace, segment_of}
-use Rattle.k_base.proofs.NameTests.{heap_eq-true, name_eq-true, name_lt_irrefl, name_lt_trans}
+use Rattle.k_types.proofs.NameTests.{heap_eq-true, name_eq-true, name_lt_irrefl, name_lt_trans}
 use Rattle.k_audit.specs.Grammar.{AreExitsFrom, IsExitAfter}
 use Rattle.k_audit.specs.Places.{IsExitPlace}
 use Rattle.k_audit.specs.Tests.{exit_lt}

@@ -6,7 +6,7 @@ use Rattle.k_types.specs.declared.names.Field.{Field}
 use Rattle.k_types.specs.declared.names.Field.TheVariants.{Ref}
 use Rattle.k_types.specs.State.{Content}
 use Rattle.k_words.specs.Words.{Text, word_at}
-use Rattle.k_base.proofs.Numbered.{drop_all}
+use Rattle.k_types.proofs.Numbered.{drop_all}
 use Rattle.k_trace.specs.Named.{DeclaredNames}
 use Rattle.k_audit.specs.Reading.{content_of, contents_at}
 

@@ -13,13 +13,13 @@ use Rattle.k_types.specs.Sound.{AreGone, IsSized}
 use Rattle.k_types.specs.State.{Sharing, State, has_exit, has_share, in_registers}
 use Rattle.k_types.specs.Steps.{has_sharer}
 use Rattle.k_types.specs.Trace.{Trace, process_count}
-use Rattle.k_base.proofs.NameTests.{name_eq_refl}
-use Rattle.k_base.proofs.Numbered.{all_at_below, all_below}
+use Rattle.k_types.proofs.NameTests.{name_eq_refl}
+use Rattle.k_types.proofs.Numbered.{all_at_below, all_below}
 use Rattle.k_audit.specs.Tests.{all_registers_gone, exits_stay, heap_stays, is_null, nothing_left, registers_gone, share_stays}
 use Rattle.k_audit.proofs.Means.{all_say, order, said_of_all, no_scan}
 use Rattle.k_audit.proofs.DanglingLaw.{exits_hold, exits_say, no_registers}
-use Rattle.k_base.proofs.Owners.{absorbed_is}
-use Rattle.k_base.proofs.Shares.{sharer_of}
+use Rattle.k_types.proofs.Owners.{absorbed_is}
+use Rattle.k_types.proofs.Shares.{sharer_of}
 
 -- ---- registers
 

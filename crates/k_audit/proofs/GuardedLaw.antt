@@ -8,10 +8,10 @@ use Rattle.k_types.specs.declared.names.Name.{Name}
 use Rattle.k_types.specs.Names.{heap_eq, leads_to, name_eq}
 use Rattle.k_types.specs.Sound.{AreGuarded, IsLegalStore}
 use Rattle.k_types.specs.State.{Content, ExitItem, Holds, Object, Refers, content_leads_to, has_exit, refers, refers_in}
-use Rattle.k_base.proofs.NameTests.{name_eq-true, name_eq_refl}
+use Rattle.k_types.proofs.NameTests.{name_eq-true, name_eq_refl}
 use Rattle.k_audit.specs.Tests.{content_guarded, object_guarded, passes, reference_guarded}
 use Rattle.k_audit.proofs.Means.{all_say, said_of_all, or_where}
-use Rattle.k_base.proofs.Tests.{or_second}
+use Rattle.k_types.proofs.Tests.{or_second}
 
 -- a reference of an object of the heap to that name is lawful
 record IsLawful (own : ℕ → Heap) (exits : List ExitItem) (from : Heap) (n : Name) : Type 0 where

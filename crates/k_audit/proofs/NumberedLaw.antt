@@ -6,7 +6,7 @@ use Rattle.k_types.specs.declared.names.Name.{Name}
 use Rattle.k_types.specs.Names.{name_eq}
 use Rattle.k_types.specs.Sound.{AreNumbered}
 use Rattle.k_types.specs.State.{Object, has}
-use Rattle.k_base.proofs.NameTests.{name_eq-true, name_eq_refl}
+use Rattle.k_types.proofs.NameTests.{name_eq-true, name_eq_refl}
 use Rattle.k_state.specs.Places.{IsNamedAt}
 use Rattle.k_audit.specs.Tests.{is_numbered}
 use Rattle.k_audit.proofs.Means.{all_say, said_of_all}

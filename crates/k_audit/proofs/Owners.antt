@@ -4,7 +4,7 @@ use Rattle.std.proofs.lemmas.Bool.{and_from, and_parts, false≢true}
 use Rattle.k_types.specs.declared.names.Heap.{Heap}
 use Rattle.k_types.specs.Names.{heap_eq}
 use Rattle.k_types.specs.State.{Object}
-use Rattle.k_base.proofs.NameTests.{heap_eq-same, heap_eq-true}
+use Rattle.k_types.proofs.NameTests.{heap_eq-same, heap_eq-true}
 use Rattle.k_audit.specs.Agreeing.{owners_agree}
 
 pub owners_law : (own : ℕ → Heap) (owners : List Heap) (objects : List Object) → (owners_agree own owners objects ≡ true) ↔ (owners ≡ map (λ o. own o.name.seg.0) objects)

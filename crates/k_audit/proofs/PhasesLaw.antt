@@ -15,14 +15,14 @@ use Rattle.k_types.specs.Sound.{ArePhases, IsSized}
 use Rattle.k_types.specs.State.{Object, Sharing, State, has, has_share}
 use Rattle.k_types.specs.Steps.{has_sharer}
 use Rattle.k_types.specs.Trace.{Trace}
-use Rattle.k_base.proofs.NameTests.{heap_eq-same, heap_eq-true, name_eq-true, name_eq_refl}
-use Rattle.k_base.proofs.Numbered.{all_below}
+use Rattle.k_types.proofs.NameTests.{heap_eq-same, heap_eq-true, name_eq-true, name_eq_refl}
+use Rattle.k_types.proofs.Numbered.{all_below}
 use Rattle.k_audit.specs.Tests.{all_phases_fit, is_made, object_fits, owner_made, phase_fits, phases_agree, share_fits, sharer_fits}
 use Rattle.k_audit.proofs.Means.{all_say, said_of_all, or_where}
 use Rattle.k_audit.proofs.DanglingLaw.{phase_at}
 use Rattle.k_audit.proofs.GoneLaw.{sharers_say, shares_hold, shares_say}
-use Rattle.k_base.proofs.Shares.{sharer_of}
-use Rattle.k_base.proofs.Tests.{or_second}
+use Rattle.k_types.proofs.Shares.{sharer_of}
+use Rattle.k_types.proofs.Tests.{or_second}
 
 -- ---- sharers
 

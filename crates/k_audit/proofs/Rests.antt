@@ -9,7 +9,7 @@ use Rattle.k_types.specs.Names.{heap_eq}
 use Rattle.k_types.specs.Sound.{IsOrdered}
 use Rattle.k_types.specs.State.{Object}
 use Rattle.k_types.specs.Trace.{Trace, segment_count}
-use Rattle.k_base.proofs.Ordered.{ordered_tail}
+use Rattle.k_types.proofs.Ordered.{ordered_tail}
 use Rattle.k_state.specs.Machines.{IsDeclared}
 use Rattle.k_state.specs.Segments.{AreIn, objects_in}
 use Rattle.k_state.proofs.Borders.{none_before, not_less}

@@ -16,15 +16,15 @@ use Rattle.k_types.specs.Owners.{bytes_of, charge_of, is_absorbed, owner_of, own
 use Rattle.k_types.specs.Sound.{IsSound, IsTyped}
 use Rattle.k_types.specs.State.{Content, ExitItem, Holds, Object, Refers, Sharing, State, content_leads_to, has, has_exit, has_share, refers}
 use Rattle.k_types.specs.Trace.{IsHeap, Trace, process_count, segment_count}
-use Rattle.k_base.proofs.Lists.{if_some, numbers_length}
-use Rattle.k_base.proofs.NameTests.{heap_eq_refl, name_eq_refl}
-use Rattle.k_base.proofs.Objects.{found_name, has_found, refers_found}
+use Rattle.k_types.proofs.Lists.{if_some, numbers_length}
+use Rattle.k_types.proofs.NameTests.{heap_eq_refl, name_eq_refl}
+use Rattle.k_types.proofs.Objects.{found_name, has_found, refers_found}
 use Rattle.k_audit.specs.Claims.{claims_of, exits_in_order, shares_in_order, still}
 use Rattle.k_audit.specs.Grammar.{AreSpelledClaims, IsSpelledContent, IsSpelledExit, IsSpelledName, IsSpelledObject, IsSpelledPhase, IsSpelledShare, IsSpelledState}
 use Rattle.k_audit.specs.Ranges.{HoldsNumber, IsInRange}
 use Rattle.k_audit.proofs.Rising.{ended_known, ended_rise, exits_rise, shares_rise}
 use Rattle.k_audit.proofs.Stilled.{exit_same, share_same}
-pub use Rattle.k_base.proofs.Ordered.{all_found}
+pub use Rattle.k_types.proofs.Ordered.{all_found}
 
 -- ---- lists
 

@@ -13,7 +13,7 @@ use Rattle.k_types.specs.State.{ExitItem, Object, Sharing, State, has_exit, has_
 use Rattle.k_types.specs.Trace.{IsHeap, Trace, process_count, segment_count}
 use Rattle.k_words.specs.Words.{Text}
 use Rattle.k_trace.specs.Named.{DeclaredNames}
-use Rattle.k_base.proofs.NameTests.{heap_eq-true, name_eq-true}
+use Rattle.k_types.proofs.NameTests.{heap_eq-true, name_eq-true}
 use Rattle.k_audit.specs.Claims.{Snap, claims_of}
 use Rattle.k_audit.specs.Grammar.{AreExitsFrom, AreRisingFrom, IsSpelledExit, IsSpelledObject, IsSpelledPhase, IsSpelledShare, IsSpelledState, share_place}
 use Rattle.k_audit.specs.Tests.{exit_lt}

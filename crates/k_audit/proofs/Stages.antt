@@ -5,10 +5,9 @@ use Rattle.k_types.specs.declared.names.Name.{Name}
 use Rattle.k_types.specs.declared.names.Phase.{Phase}
 use Rattle.k_types.specs.State.{ExitItem, Object, Sharing, State}
 use Rattle.k_types.specs.Trace.{Trace, process_count, segment_of}
-use Rattle.k_words.specs.Words.{Text}
+use Rattle.k_words.specs.Words.{Text, word_at}
 use Rattle.k_trace.specs.Named.{DeclaredNames}
 use Rattle.k_text.specs.Report.{kernel_charge_words, limit_charge_words, object_words, process_charge_words, shared_charge_words}
-use Rattle.k_words.specs.Words.{word_at}
 use Rattle.k_audit.specs.Claims.{Claims}
 use Rattle.k_audit.specs.Grammar.{AreExitsFrom, AreRisingFrom, IsExitAfter, share_place}
 use Rattle.k_audit.specs.Lines.{exit_line as exit_words, gone_words, heap_lines, limit_lines, made_lines, made_words, object_lines, process_lines, share_words}

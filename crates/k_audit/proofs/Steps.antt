@@ -29,7 +29,7 @@ use Rattle.k_audit.proofs.RowsSet.{AreNullFrom, null_rows, rows_null, rows_set, 
 use Rattle.k_audit.proofs.Stages.{Parts, Stage, AtStart, AtGone, AtMade, AtGraph, AtRoots, AtExits, AtShares, AtKernel, AtLimits, AtProcesses, AtHeaps, AtOver, at, blank_rows, claims_with, exits_last, gone_after, gone_last, graph_after, graph_last, heaps_last, limits_last, made_last, objects_last, part1, part2, part3, part4, part5, part6, part7, part8, part9, part10, processes_last, reading_at, rising_last, said, segment_after, segment_last, shares_after, shares_last, shares_rise, state_with, target_after, target_last}
 use Rattle.k_audit.proofs.Upto.{Upto2, Upto3, Upto4, Upto5, Upto6, Upto7, Upto8, Upto9, Good}
 use Rattle.k_audit.proofs.WordsBack.{and_then_some, exit_back, gone_back, line_words, made_back, object_back, root_back, share_back}
-use Rattle.k_base.proofs.Lists.{all_push}
+use Rattle.k_types.proofs.Lists.{all_push}
 
 -- where a line leads, which is said behind those before
 pub record IsStep (names : DeclaredNames) (trace : Trace) (next : Reading) (line : Text) (before : List (List Text)) : Type 0 where

@@ -16,19 +16,19 @@ use Rattle.k_types.specs.State.{ExitItem, Sharing, State, has_exit, has_share}
 use Rattle.k_types.specs.Steps.{has_sharer}
 use Rattle.k_types.specs.Totals.{total}
 use Rattle.k_types.specs.Trace.{IsHeap, Trace, process_count}
-use Rattle.k_base.proofs.NameTests.{heap_eq-true, heap_eq_refl}
-use Rattle.k_base.proofs.Numbered.{listed_below, passes_below}
-use Rattle.k_base.proofs.Sums.{sum_same}
-use Rattle.k_base.proofs.Tests.{same_test}
-use Rattle.k_changes.proofs.SharedSums.{shares_sum}
+use Rattle.k_types.proofs.NameTests.{heap_eq-true, heap_eq_refl}
+use Rattle.k_types.proofs.Numbered.{listed_below, passes_below}
+use Rattle.k_types.proofs.Sums.{sum_same}
+use Rattle.k_types.proofs.Tests.{same_test}
+use Rattle.k_laws.proofs.SharedSums.{shares_sum}
 use Rattle.k_text.specs.Shown.{exits_of}
 use Rattle.k_text.proofs.InOrder.{in_order_among}
 use Rattle.k_audit.proofs.Means.{order}
 use Rattle.k_audit.proofs.Rising.{shares_rise}
 use Rattle.k_audit.proofs.Shaped.{distinct_shares}
 use Rattle.k_audit.specs.Claims.{Claims, claims_of, ended_in_order, exits_in_order, items_of, share_of, shares_in_order, still}
-use Rattle.k_base.proofs.Exits.{targets_among}
-use Rattle.k_base.proofs.Shares.{sharer_from, sharer_of}
+use Rattle.k_types.proofs.Exits.{targets_among}
+use Rattle.k_types.proofs.Shares.{sharer_from, sharer_of}
 
 -- ---- exit items
 

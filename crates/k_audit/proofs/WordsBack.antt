@@ -6,7 +6,7 @@ use Rattle.std.specs.Str.{bytes_eq}
 use Rattle.std.proofs.lemmas.Bool.{and_parts}
 use Rattle.std.proofs.lemmas.List.{drop_more}
 use Rattle.std.proofs.lemmas.List.Splits.{join_with_byte-slice_split}
-use Rattle.k_base.proofs.Numbered.{drop_all}
+use Rattle.k_types.proofs.Numbered.{drop_all}
 use Rattle.k_types.specs.declared.names.Field.{Field}
 use Rattle.k_types.specs.declared.names.Field.TheVariants.{Ref, Int}
 use Rattle.k_types.specs.declared.names.Heap.{Heap}

@@ -12,7 +12,7 @@ use Rattle.k_types.specs.Numbers.{numbers_below, numbers_from}
 use Rattle.k_types.specs.Steps.{in_range}
 use Rattle.k_types.specs.Totals.{total}
 use Rattle.k_types.specs.TraceRules.{EndsWithExit, is_exit, is_of_version, is_spelled}
-use Rattle.k_base.proofs.Sums.{bit, count_is_total, one_counts, sum_same, total_append}
+use Rattle.k_types.proofs.Sums.{bit, count_is_total, one_counts, sum_same, total_append}
 use Rattle.k_laws.proofs.UsesRaised.{times}
 use Rattle.k_trace.specs.Grown.{has_exit}
 use Rattle.k_reader.proofs.OpLists.{ends_push, none_ends}

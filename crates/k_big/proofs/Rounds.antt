@@ -9,7 +9,7 @@ use Rattle.std.proofs.lemmas.List.Folds.{list_all-append}
 use Rattle.k_types.specs.declared.names.Pid.{Pid}
 use Rattle.k_types.specs.declared.op.Op.{Op}
 use Rattle.k_types.specs.Numbers.{numbers_below, numbers_from}
-use Rattle.k_base.proofs.Lists.{map_replicate}
+use Rattle.k_types.proofs.Lists.{map_replicate}
 use Rattle.k_report.proofs.LineLemmas.{numbers_more}
 use Rattle.k_big.specs.Workload.{operations_for, turns}
 

@@ -12,7 +12,7 @@ use Rattle.k_trace.specs.Rules.{IsTrace}
 use Rattle.k_big.specs.Workload.{big_trace, operations_for, processes, root, share, turns}
 use Rattle.k_big.proofs.Bounds.{few_operations, operations_end, operations_ranged, operations_spelled, operations_versioned, short_pieces, turns_counted, turns_known}
 use Rattle.k_big.proofs.Declared.{bare_is_trace}
-use Rattle.k_base.proofs.Lists.{at_number}
+use Rattle.k_types.proofs.Lists.{at_number}
 
 -- the rows of the limits
 abbrev rows : ℕ → List LimitRow

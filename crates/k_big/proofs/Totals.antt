@@ -3,7 +3,7 @@ use Rattle.std.proofs.Common.{◌≡◌, ◌∙◌, ℕ, ◌+◌, ap, List, [], 
 use Rattle.std.proofs.lemmas.List.{take_more}
 use Rattle.std.proofs.lemmas.Option.{slice_get_within, get_or_from_slice_get}
 use Rattle.k_types.specs.Totals.{total}
-use Rattle.k_base.proofs.Sums.{total_push}
+use Rattle.k_types.proofs.Sums.{total_push}
 
 -- one element more
 pub total_so_far : {A : Type 0} (f : A → ℕ) (xs : List A) (i : ℕ) (v : A) → slice_get xs i ≡ Some v → total f (take (i + 1) xs) ≡ total f (take i xs) + f v

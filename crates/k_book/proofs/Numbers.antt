@@ -4,7 +4,7 @@ use Rattle.std.proofs.lemmas.List.{length-map}
 use Rattle.k_types.specs.declared.names.Heap.TheVariants.{Kernel}
 use Rattle.k_types.specs.Numbers.{numbers_below, numbers_from}
 use Rattle.k_types.specs.Owners.{user, shared}
-use Rattle.k_base.proofs.Lists.{numbers_length}
+use Rattle.k_types.proofs.Lists.{numbers_length}
 
 -- the same function of one number more
 mapped_more : {A : Type 0} (f : ℕ → A) (first n : ℕ) → map f (numbers_from first (n + 1)) ≡ map f (numbers_from first n) ++ f (first + n) ∷ []

@@ -10,9 +10,9 @@ use Rattle.k_types.specs.Counted.{counted}
 use Rattle.k_types.specs.Names.{heap_eq, name_eq}
 use Rattle.k_types.specs.Owners.{user}
 use Rattle.k_types.specs.State.{has_share}
-use Rattle.k_base.proofs.NameTests.{name_eq-true}
-use Rattle.k_base.proofs.Tests.{same_test}
-use Rattle.k_agree.specs.k_changes.BookChanges.{keeping_shares, pins_by, with_entry, with_pin_moved, with_share, without_entries}
+use Rattle.k_types.proofs.NameTests.{name_eq-true}
+use Rattle.k_types.proofs.Tests.{same_test}
+use Rattle.k_agree.specs.k_laws.BookChanges.{keeping_shares, pins_by, with_entry, with_pin_moved, with_share, without_entries}
 use Rattle.k_entered.specs.k_entry.Entries.{HasLess, HasMore}
 use Rattle.k_agree.specs.Ending.{HasLeft}
 use Rattle.k_agree.specs.GivingOnTheBook.{HasEntered, HasUnpinned}

@@ -18,8 +18,8 @@ use Rattle.k_types.specs.State.{State, has_share}
 use Rattle.k_types.specs.Steps.{has_sharer, is_live, is_orphan}
 use Rattle.k_types.specs.Trace.{Trace, segment_count, trace_of, row_of}
 use Rattle.k_types.specs.TraceRules.{IsTree}
-use Rattle.k_base.proofs.Ancestors.{ancestors_in}
-use Rattle.k_base.proofs.Maxima.{hard_in, maxima_count, parent_in, twice_in}
+use Rattle.k_types.proofs.Ancestors.{ancestors_in}
+use Rattle.k_types.proofs.Maxima.{hard_in, maxima_count, parent_in, twice_in}
 use Rattle.k_limits.specs.Laws.{AreCharges}
 use Rattle.k_limits.specs.Limits.{charged_limits, full_at, use_at, is_full_at}
 use Rattle.k_limits.proofs.MachineUses.{machine_fulls, machine_uses}
@@ -32,8 +32,8 @@ use Rattle.k_book.specs.Machine.{IsBookOf, TellsTheMachine, TellsTheLimits}
 use Rattle.k_limits.specs.Resizes.{full_for_at}
 use Rattle.k_limits.specs.Paths.{path_from}
 use Rattle.k_types.specs.declared.names.LimitId.{LimitId}
-use Rattle.k_base.proofs.Lists.{at_number}
-use Rattle.k_base.proofs.Shares.{sharers_same}
+use Rattle.k_types.proofs.Lists.{at_number}
+use Rattle.k_types.proofs.Shares.{sharers_same}
 
 -- the element of a number below the bound
 at_below : {A : Type 0} (f : ℕ → A) (n k : ℕ) (d : A) → k < n → slice_index_or (map f (numbers_below n)) k d ≡ f k

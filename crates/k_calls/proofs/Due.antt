@@ -16,15 +16,15 @@ use Rattle.k_types.specs.Effects.{step}
 use Rattle.k_types.specs.Names.{heap_eq}
 use Rattle.k_types.specs.Steps.{IsLegalHistory, IsPossible, state_after}
 use Rattle.k_types.specs.Trace.{process_count}
-use Rattle.k_base.specs.Distinct.{AreDistinctNames}
-use Rattle.k_bounds.specs.Counts.{is_allocation, is_store}
-use Rattle.k_squares.specs.Locals.{is_local_in}
-use Rattle.k_squares.specs.Touches.{other_cells_in}
-use Rattle.k_squares.proofs.Laws.{touched_cells_are_told}
-use Rattle.k_frame.proofs.Histories.{state_next}
-use Rattle.k_moves.proofs.Idle.{part_shown}
+use Rattle.k_types.specs.Distinct.{AreDistinctNames}
+use Rattle.k_laws.specs.Counts.{is_allocation, is_store}
+use Rattle.k_laws.specs.Locals.{is_local_in}
+use Rattle.k_laws.specs.Touches.{other_cells_in}
+use Rattle.k_laws.proofs.SquaresLaws.{touched_cells_are_told}
+use Rattle.k_laws.proofs.Histories.{state_next}
+use Rattle.k_agree.proofs.Idle.{part_shown}
 use Rattle.k_shares.specs.Sharers.{living_of}
-use Rattle.k_moves.specs.Shown.{idle_part}
+use Rattle.k_agree.specs.Shown.{idle_part}
 use Rattle.k_agree.specs.Agreement.{Shows}
 use Rattle.k_agree.specs.Meeting.{Fits}
 use Rattle.k_agree.proofs.Meetings.{meeting}

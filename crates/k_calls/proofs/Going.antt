@@ -12,7 +12,7 @@ use Rattle.k_types.specs.State.{State}
 use Rattle.k_types.specs.Steps.{state_after}
 use Rattle.k_types.specs.Trace.{Trace, process_count, segment_count, segment_of}
 use Rattle.k_agree.proofs.AtTheEnd.{maxima_counted}
-use Rattle.k_frame.proofs.OwnerOf.{owner_stands}
+use Rattle.k_laws.proofs.OwnerOf.{owner_stands}
 use Rattle.k_agree.specs.Agreement.{Agrees, BookAgrees, Shows}
 use Rattle.k_book.specs.Books.{BookRecord, pin_room_of}
 use Rattle.k_cell.specs.Holdings.{HoldingsValue}

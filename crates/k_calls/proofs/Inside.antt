@@ -2,8 +2,8 @@
 use Rattle.std.proofs.Common.{◌≡◌, ◌<◌, refl, sym, subst, Option, Some, None, IfNone, IfSome, IsFalse, is_some, length, arith}
 use Rattle.k_types.specs.declared.event.Reply.{Reply}
 use Rattle.k_types.specs.declared.op.Op.{Op}
-use Rattle.k_squares.specs.Locals.{is_local_in}
-use Rattle.k_moves.specs.Shown.{idle_part}
+use Rattle.k_laws.specs.Locals.{is_local_in}
+use Rattle.k_agree.specs.Shown.{idle_part}
 use Rattle.k_heap.specs.Heaps.{HeapRecord}
 use Rattle.k_operate.specs.k_local.Locals.{after_local, local_answer}
 use Rattle.k_guests.proofs.LocalKept.{local_agrees, local_is_possible}

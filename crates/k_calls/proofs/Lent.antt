@@ -10,9 +10,9 @@ use Rattle.k_types.specs.declared.op.Op.{Op}
 use Rattle.k_types.specs.declared.op.Op.TheVariants.{New, Store}
 use Rattle.k_types.specs.Agree.{book_shown_by}
 use Rattle.k_types.specs.Cells.{Cell}
-use Rattle.k_squares.specs.Locals.{is_local_in}
-use Rattle.k_squares.specs.Touches.{other_cells_in}
-use Rattle.k_moves.specs.Shown.{idle_part}
+use Rattle.k_laws.specs.Locals.{is_local_in}
+use Rattle.k_laws.specs.Touches.{other_cells_in}
+use Rattle.k_agree.specs.Shown.{idle_part}
 use Rattle.k_book.specs.Books.{BookRecord}
 use Rattle.k_cell.specs.Holdings.{HoldingsValue}
 use Rattle.k_shared.specs.SharedHeaps.{SharedRecord}

@@ -19,7 +19,7 @@ use Rattle.k_types.specs.State.{State}
 use Rattle.k_types.specs.Steps.{IsPossible}
 use Rattle.k_types.specs.Trace.{Trace}
 use Rattle.k_types.specs.Updates.{count_done}
-use Rattle.k_bounds.specs.Counts.{is_store}
+use Rattle.k_laws.specs.Counts.{is_store}
 use Rattle.k_operate.specs.Operating.{collects_or_exits}
 use Rattle.k_guests.proofs.Reserve.{event_kept}
 use Rattle.k_guests.specs.Reserve.{kept_for}

@@ -9,11 +9,11 @@ use Rattle.k_types.specs.declared.op.Op.TheVariants.{New, KNew, SNew, Store}
 use Rattle.k_types.specs.Agree.{BookValue, CellValue, book_shown_by}
 use Rattle.k_types.specs.Cells.{Cell, CellPart}
 use Rattle.k_types.specs.Steps.{state_after}
-use Rattle.k_squares.specs.Touches.{other_cells_in}
+use Rattle.k_laws.specs.Touches.{other_cells_in}
 use Rattle.k_agree.specs.Agreement.{Agrees}
 use Rattle.k_agree.specs.Meeting.{Fits, met_note}
 use Rattle.k_book.specs.Books.{BookRecord}
-use Rattle.k_bounds.specs.Counts.{is_allocation, is_store}
+use Rattle.k_laws.specs.Counts.{is_allocation, is_store}
 use Rattle.k_cell.specs.Holdings.{HasObjectRoom, HoldingsValue}
 use Rattle.k_operate.specs.k_commit.Changed.{bodies_after}
 use Rattle.k_operate.specs.k_commit.Others.{of_shared}

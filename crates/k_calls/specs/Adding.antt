@@ -4,7 +4,7 @@ use Rattle.k_types.specs.declared.op.Op.{Op}
 use Rattle.k_types.specs.declared.op.Op.TheVariants.{New, KNew, SNew, Store}
 use Rattle.k_book.specs.Books.{BookRecord}
 use Rattle.k_book.specs.Objects.{objects_told}
-use Rattle.k_bounds.specs.Counts.{is_allocation}
+use Rattle.k_laws.specs.Counts.{is_allocation}
 use Rattle.k_cell.specs.Holdings.{HasObjectRoom, HoldingsValue}
 use Rattle.k_heap.specs.Heaps.{holdings_of as heap_holdings, own_segment}
 use Rattle.k_shared.specs.SharedHeaps.{SharedRecord, holdings_of as shared_holdings}

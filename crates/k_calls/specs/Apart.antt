@@ -7,8 +7,8 @@ use Rattle.k_types.specs.declared.names.CellPhase.TheVariants.{Idle}
 use Rattle.k_types.specs.declared.names.Heap.TheVariants.{Kernel, Shared}
 use Rattle.k_types.specs.declared.op.Op.{Op}
 use Rattle.k_types.specs.Cells.{Cell}
-use Rattle.k_squares.specs.Locals.{is_local_in}
-use Rattle.k_moves.specs.Shown.{idle_part}
+use Rattle.k_laws.specs.Locals.{is_local_in}
+use Rattle.k_agree.specs.Shown.{idle_part}
 use Rattle.k_book.specs.Books.{BookRecord}
 use Rattle.k_cell.specs.Holdings.{HoldingsValue}
 use Rattle.k_operate.specs.Reaching.{cells_of}

@@ -12,12 +12,12 @@ use Rattle.k_types.specs.declared.op.Op.{Op}
 use Rattle.k_types.specs.Agree.{book_shown_by}
 use Rattle.k_types.specs.Cells.{Cell}
 use Rattle.k_types.specs.Steps.{IsPossible, in_range, state_after}
-use Rattle.k_frame.specs.PartUpdates.{done_in}
+use Rattle.k_laws.specs.PartUpdates.{done_in}
 use Rattle.k_bodies.specs.Bodies.{type_made}
-use Rattle.k_bounds.specs.Counts.{one_if}
-use Rattle.k_squares.specs.Locals.{is_local_in}
-use Rattle.k_squares.specs.Touches.{other_cells_in}
-use Rattle.k_moves.specs.Shown.{idle_part}
+use Rattle.k_laws.specs.Counts.{one_if}
+use Rattle.k_laws.specs.Locals.{is_local_in}
+use Rattle.k_laws.specs.Touches.{other_cells_in}
+use Rattle.k_agree.specs.Shown.{idle_part}
 use Rattle.k_book.specs.Books.{BookRecord}
 use Rattle.k_cell.specs.Holdings.{HoldingsValue}
 use Rattle.k_heap.specs.Heaps.{has_ended_in}

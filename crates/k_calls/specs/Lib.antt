@@ -9,4 +9,4 @@ pub use Rattle.k_operate.specs.Exiting
 pub use Rattle.k_operate.specs.k_collect
 pub use Rattle.k_operate.specs.k_commit
 pub use Rattle.k_guests.specs as k_guests
-pub use Rattle.k_guests.specs.k_locked
+pub use Rattle.k_guests.specs.k_process

@@ -1,11 +1,11 @@
 //! One operation of a process, with the cells that it touches and the book.
 ghost use Rattle.std.specs.Prelude.{◌≡◌, IfNone, IfSome, IsFalse, [], is_some};
-ghost use Rattle.k_moves.specs.Shown.{idle_part};
-ghost use Rattle.k_squares.specs.Locals.{is_local_in};
-ghost use Rattle.k_squares.specs.Touches.{other_cells_in};
+ghost use Rattle.k_agree.specs.Shown.{idle_part};
+ghost use Rattle.k_laws.specs.Locals.{is_local_in};
+ghost use Rattle.k_laws.specs.Touches.{other_cells_in};
 ghost use Rattle.k_operate.specs.Reaching.{CanReach, cells_of};
 ghost use Rattle.k_types.specs.Agree.{book_shown_by};
-ghost use Rattle.k_base.specs.Distinct.{AreDistinctNames};
+ghost use Rattle.k_types.specs.Distinct.{AreDistinctNames};
 ghost use Rattle.k_calls.specs.Adding.{HasOwnRoom};
 ghost use Rattle.k_calls.specs.Doing.{CanDoInside, CanDoWithKernel, CanDoWithShared, HasDoneAlone, HasDoneInside, HasDoneWithKernel, HasDoneWithShared, HasPublishedAll, HasRoomToPublish, IsDueWith, IsPublishedWhereFull};
 ghost use Rattle.k_guests.specs.Serving.{Basis, BookServes, GuestServes, basis_of};

@@ -1,7 +1,7 @@
 //! An operation that is made up, with whatever it touches, and what a process does inside its heap.
 ghost use Rattle.std.specs.Prelude.{◌≡◌, ◌↔◌, ◌+◌, ◌<◌, IsTrue, length, IfErr, IfNone, IfOk, IfSome, OnErr, OnOk, is_some};
-ghost use Rattle.k_moves.specs.Shown.{idle_part};
-ghost use Rattle.k_squares.specs.Locals.{is_local_in};
+ghost use Rattle.k_agree.specs.Shown.{idle_part};
+ghost use Rattle.k_laws.specs.Locals.{is_local_in};
 ghost use Rattle.k_guests.specs.Serving.{BookServes, GuestServes, HasTailRoom, basis_of};
 ghost use Rattle.k_calls.specs.Doing.{CanOperate, HasDoneInside, HasOperated, HasPublishedAll};
 ghost use Rattle.k_calls.specs.Refusals.{CanNotDoInside, CanNotOperateAlone, CanNotPublish};

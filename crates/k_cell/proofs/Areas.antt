@@ -3,21 +3,21 @@ use Rattle.std.proofs.Common.{◌≡◌, ◌⊎◌, ℕ, zero, suc, ◌+◌, ◌
 use Rattle.std.proofs.Math.Path.{fun_ext}
 use Rattle.std.proofs.lemmas.Bool.{cases_eq}
 use Rattle.std.proofs.lemmas.List.{length-append, length-map}
-use Rattle.k_areas.specs.k_types.Numbers.{numbers_from, numbers_below}
-use Rattle.k_areas.specs.k_changes.CellChanges.{given}
-use Rattle.k_areas.specs.k_space.Objects.{BodyValue}
-use Rattle.k_areas.specs.k_space.Segments.{HasRoom, IsSegment, LiesAt, Row, SegmentValue, made, new_row, placed, row_at, unmarked_row, unmarked_segment}
-use Rattle.k_areas.specs.k_space.Areas.{AreaValue, place_of, segment_at, unmarked}
-use Rattle.k_areas.proofs.AreaRows.{number_found}
-use Rattle.k_areas.specs.Shown.{area_objects, HasNoneFrom, AreNumberedBelow}
-use Rattle.k_areas.specs.Lists.{made_list}
-use Rattle.k_areas.proofs.Found.{at_map, at_set_same, at_set_other, set_number, same_numbered, unmarked_numbers}
-use Rattle.k_areas.proofs.Changed.{same_area}
-use Rattle.k_areas.proofs.Named.{made_listed}
+use Rattle.k_mark.specs.k_types.Numbers.{numbers_from, numbers_below}
+use Rattle.k_mark.specs.k_laws.CellChanges.{given}
+use Rattle.k_mark.specs.k_space.Objects.{BodyValue}
+use Rattle.k_mark.specs.k_space.Segments.{HasRoom, IsSegment, LiesAt, Row, SegmentValue, made, new_row, placed, row_at, unmarked_row, unmarked_segment}
+use Rattle.k_mark.specs.k_space.Areas.{AreaValue, place_of, segment_at, unmarked}
+use Rattle.k_mark.proofs.AreaRows.{number_found}
+use Rattle.k_mark.specs.Shown.{area_objects, HasNoneFrom, AreNumberedBelow}
+use Rattle.k_mark.specs.Lists.{made_list}
+use Rattle.k_mark.proofs.Found.{at_map, at_set_same, at_set_other, set_number, same_numbered, unmarked_numbers}
+use Rattle.k_mark.proofs.Changed.{same_area}
+use Rattle.k_mark.proofs.Named.{made_listed}
 use Rattle.k_cell.specs.Holdings.{serial_rooms_of, AreBegun}
 use Rattle.k_cell.specs.Placed.{CanPlace}
 use Rattle.k_cell.proofs.Living.{living_alike}
-use Rattle.k_areas.proofs.Lists.{set_below, some_one}
+use Rattle.k_mark.proofs.Lists.{set_below, some_one}
 
 pub same_below : {A : Type 0} (f g : ℕ → A) (n : ℕ) → ((i : ℕ) → f i ≡ g i) → map f (numbers_below n) ≡ map g (numbers_below n)
 same_below f g n same = ap (λ h. map h (numbers_below n)) (fun_ext same)

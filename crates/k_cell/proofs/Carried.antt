@@ -4,28 +4,28 @@ use Rattle.std.specs.List.{list_any}
 use Rattle.std.proofs.lemmas.Bool.{and_parts, cases_eq, cases_lt, false≢true, or_cases, or_left, or_right}
 use Rattle.std.proofs.lemmas.List.{get_or_append_left, length-append, length-map, map-append, take_all}
 use Rattle.std.proofs.lemmas.Option.{slice_get_within}
-use Rattle.k_areas.specs.k_types.declared.names.Name.{Name}
-use Rattle.k_areas.specs.k_types.declared.names.Link.{Link}
-use Rattle.k_areas.specs.k_types.declared.names.CellPhase.{CellPhase}
-use Rattle.k_areas.specs.k_types.declared.names.CellPhase.TheVariants.{Idle, Begun, Marked}
-use Rattle.k_areas.specs.k_types.Names.{name_among, name_eq, name_of}
-use Rattle.k_areas.specs.k_types.State.{Content, Holds, Refers, content_leads_to}
-use Rattle.k_areas.proofs.Lists.{some_one}
+use Rattle.k_mark.specs.k_types.declared.names.Name.{Name}
+use Rattle.k_mark.specs.k_types.declared.names.Link.{Link}
+use Rattle.k_mark.specs.k_types.declared.names.CellPhase.{CellPhase}
+use Rattle.k_mark.specs.k_types.declared.names.CellPhase.TheVariants.{Idle, Begun, Marked}
+use Rattle.k_mark.specs.k_types.Names.{name_among, name_eq, name_of}
+use Rattle.k_mark.specs.k_types.State.{Content, Holds, Refers, content_leads_to}
+use Rattle.k_mark.proofs.Lists.{some_one}
 use Rattle.k_agree.proofs.NameTests.{name_eq-true}
-use Rattle.k_areas.specs.k_space.Objects.{BodyValue}
-use Rattle.k_areas.specs.k_space.declared.bound.Bound.{Bound}
-use Rattle.k_areas.specs.k_space.Bounds.{is_covered, nothing}
-use Rattle.k_areas.specs.k_space.Segments.{Row, SegmentValue, unmarked_segment, is_marked, new_row, placed, some_black, some_gray, some_marked, unmarked_row}
-use Rattle.k_areas.specs.k_space.Areas.{AreaValue, black_at, fields_at, gray_at, is_foreign, row_in_segment, row_of_name, segment_at, unmarked, with_segment}
-use Rattle.k_areas.proofs.AreaRows.{found, after_foreign, after_other, after_same, number_found}
-use Rattle.k_areas.proofs.Segs.{unmarked_twice}
-use Rattle.k_areas.specs.k_exit.Exits.{ExitList, ExitRow, IsTaken, has_target, target_marked, targets, unmarked as unmarked_exits, with_target}
-use Rattle.k_areas.specs.k_mark.Kept.{IsKept, IsLedTo, old_at}
-use Rattle.k_areas.specs.k_mark.Marking.{lives_at, refers_at, some_lead_to}
-use Rattle.k_areas.specs.k_mark.Sweeping.{survivor, swept, swept_segment}
-use Rattle.k_areas.proofs.Found.{at_map, at_set_same, at_set_other}
-use Rattle.k_areas.proofs.Looked.{row_swept, row_unmarked}
-use Rattle.k_areas.proofs.Named.{marked_named, targets_named}
+use Rattle.k_mark.specs.k_space.Objects.{BodyValue}
+use Rattle.k_mark.specs.k_space.declared.bound.Bound.{Bound}
+use Rattle.k_mark.specs.k_space.Bounds.{is_covered, nothing}
+use Rattle.k_mark.specs.k_space.Segments.{Row, SegmentValue, unmarked_segment, is_marked, new_row, placed, some_black, some_gray, some_marked, unmarked_row}
+use Rattle.k_mark.specs.k_space.Areas.{AreaValue, black_at, fields_at, gray_at, is_foreign, row_in_segment, row_of_name, segment_at, unmarked, with_segment}
+use Rattle.k_mark.proofs.AreaRows.{found, after_foreign, after_other, after_same, number_found}
+use Rattle.k_mark.proofs.Segs.{unmarked_twice}
+use Rattle.k_mark.specs.k_exit.Exits.{ExitList, ExitRow, IsTaken, has_target, target_marked, targets, unmarked as unmarked_exits, with_target}
+use Rattle.k_mark.specs.Kept.{IsKept, IsLedTo, old_at}
+use Rattle.k_mark.specs.Marking.{lives_at, refers_at, some_lead_to}
+use Rattle.k_mark.specs.Sweeping.{survivor, swept, swept_segment}
+use Rattle.k_mark.proofs.Found.{at_map, at_set_same, at_set_other}
+use Rattle.k_mark.proofs.Looked.{row_swept, row_unmarked}
+use Rattle.k_mark.proofs.Named.{marked_named, targets_named}
 use Rattle.k_cell.specs.declared.carrying.Carried.{Carried}
 use Rattle.k_cell.specs.Carried.{AreMarkedFor, AreMarkedIn, IsCarried, IsWhole, known_bound}
 use Rattle.k_cell.specs.Holdings.{AreHoldings}
@@ -33,8 +33,8 @@ use Rattle.k_cell.specs.Looks.{holds_int, row_fields}
 use Rattle.k_cell.specs.Placed.{IsIntAt, IsPlacedIn, IsWrittenIf, IsWrittenIn}
 use Rattle.k_cell.proofs.Lists.{all_rows_marked, unmarked_targets}
 use Rattle.k_cell.proofs.Marks.{IsMarkedBy, was_unmarked}
-use Rattle.k_areas.proofs.OfParts.{black_marked}
-use Rattle.k_areas.proofs.KeptMarked.{marked_of_black}
+use Rattle.k_mark.proofs.OfParts.{black_marked}
+use Rattle.k_mark.proofs.KeptMarked.{marked_of_black}
 use Rattle.k_cell.proofs.Keeps.{fields_whole, led_from, none_old, same_fields_kept, same_kept, through, whole_same}
 
 -- no collection is open

@@ -3,16 +3,16 @@ use Rattle.std.proofs.Common.{◌≡◌, ◌≢◌, ◌⊎◌, ℕ, zero, suc, �
 use Rattle.std.specs.Option.{option_or}
 use Rattle.std.proofs.lemmas.Bool.{cases_eq, cases_lt}
 use Rattle.std.proofs.lemmas.List.Folds.{find-append}
-use Rattle.k_areas.specs.k_types.declared.names.Name.{Name}
-use Rattle.k_areas.specs.k_types.Names.{name_eq}
-use Rattle.k_areas.specs.k_types.State.{Content, Object, fields_of, object_at}
+use Rattle.k_mark.specs.k_types.declared.names.Name.{Name}
+use Rattle.k_mark.specs.k_types.Names.{name_eq}
+use Rattle.k_mark.specs.k_types.State.{Content, Object, fields_of, object_at}
 use Rattle.k_agree.proofs.NameTests.{name_eq-same}
-use Rattle.k_areas.specs.k_space.Segments.{Row, SegmentValue, object_of, objects_from, segment_objects, row_at}
-use Rattle.k_areas.specs.k_space.Areas.{segment_at, row_in_segment, row_of_name}
-use Rattle.k_areas.proofs.AreaRows.{number_found}
-use Rattle.k_areas.specs.Shown.{area_objects, objects_of_some, HasNoneFrom}
+use Rattle.k_mark.specs.k_space.Segments.{Row, SegmentValue, object_of, objects_from, segment_objects, row_at}
+use Rattle.k_mark.specs.k_space.Areas.{segment_at, row_in_segment, row_of_name}
+use Rattle.k_mark.proofs.AreaRows.{number_found}
+use Rattle.k_mark.specs.Shown.{area_objects, objects_of_some, HasNoneFrom}
 use Rattle.k_cell.specs.Looks.{found_among, row_fields, row_type, type_of_some}
-use Rattle.k_areas.proofs.Shown.{other_serial, other_segment}
+use Rattle.k_mark.proofs.Shown.{other_serial, other_segment}
 
 module _ (n : Name) where
   -- no later serial is that of the name

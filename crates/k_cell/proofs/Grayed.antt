@@ -1,16 +1,16 @@
 -- What has been made gray of a cell.
 use Rattle.std.proofs.Common.{◌≡◌, ℕ, ◌||◌, ◌&&◌, Bool, true, false, refl, sym, ap, ap₂, ◌∙◌, subst, List, [], ◌∷◌, ◌++◌}
 use Rattle.std.proofs.lemmas.List.Folds.{list_any-append}
-use Rattle.k_areas.specs.k_types.declared.names.Name.{Name}
-use Rattle.k_areas.specs.k_types.declared.names.CellPhase.{CellPhase}
-use Rattle.k_areas.specs.k_types.declared.names.CellPhase.TheVariants.{Idle, Begun, Marked}
-use Rattle.k_areas.specs.k_types.Agree.{CellValue}
-use Rattle.k_areas.specs.k_types.Names.{name_among, name_eq}
-use Rattle.k_areas.specs.k_types.State.{Object, has}
-use Rattle.k_areas.proofs.Charges.{or_none}
+use Rattle.k_mark.specs.k_types.declared.names.Name.{Name}
+use Rattle.k_mark.specs.k_types.declared.names.CellPhase.{CellPhase}
+use Rattle.k_mark.specs.k_types.declared.names.CellPhase.TheVariants.{Idle, Begun, Marked}
+use Rattle.k_mark.specs.k_types.Agree.{CellValue}
+use Rattle.k_mark.specs.k_types.Names.{name_among, name_eq}
+use Rattle.k_mark.specs.k_types.State.{Object, has}
+use Rattle.k_mark.proofs.Charges.{or_none}
 use Rattle.k_agree.proofs.NameTests.{name_eq-true}
-use Rattle.k_areas.specs.k_space.Areas.{AreaValue, black_at, grayed, unmarked}
-use Rattle.k_areas.specs.k_exit.Exits.{ExitRow}
+use Rattle.k_mark.specs.k_space.Areas.{AreaValue, black_at, grayed, unmarked}
+use Rattle.k_mark.specs.k_exit.Exits.{ExitRow}
 use Rattle.k_agree.specs.Marking.{begun}
 use Rattle.k_cell.specs.Changes.{HasBegun, HasGrayed, HasRoot}
 use Rattle.k_cell.specs.Holdings.{AreHoldings, cell_seen, gray_in}

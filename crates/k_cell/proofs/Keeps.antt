@@ -1,16 +1,16 @@
 -- What is kept, as it is seen after a change elsewhere.
 use Rattle.std.proofs.Common.{◌≡◌, ◌↔◌, ◌&&◌, ◌≤◌, ℕ, Bool, true, false, refl, sym, ap, subst, ◌∙◌, List, length, take, is_some}
 use Rattle.std.proofs.lemmas.Bool.{and_parts, false≢true}
-use Rattle.k_areas.specs.k_types.declared.names.Name.{Name}
-use Rattle.k_areas.specs.k_types.Names.{name_among}
-use Rattle.k_areas.specs.k_space.declared.bound.Bound.{Bound}
-use Rattle.k_areas.specs.k_space.Bounds.{is_covered, nothing}
-use Rattle.k_areas.specs.k_space.Areas.{AreaValue, fields_at, is_foreign}
-use Rattle.k_areas.proofs.Segs.{uncovered}
-use Rattle.k_areas.specs.k_exit.Exits.{ExitRow, targets}
-use Rattle.k_areas.specs.k_mark.Reached.{IsReached, begins, follows}
-use Rattle.k_areas.specs.k_mark.Kept.{IsKept, IsLedTo, old_at}
-use Rattle.k_areas.specs.k_mark.Marking.{lives_at, refers_at, some_lead_to}
+use Rattle.k_mark.specs.k_types.declared.names.Name.{Name}
+use Rattle.k_mark.specs.k_types.Names.{name_among}
+use Rattle.k_mark.specs.k_space.declared.bound.Bound.{Bound}
+use Rattle.k_mark.specs.k_space.Bounds.{is_covered, nothing}
+use Rattle.k_mark.specs.k_space.Areas.{AreaValue, fields_at, is_foreign}
+use Rattle.k_mark.proofs.Segs.{uncovered}
+use Rattle.k_mark.specs.k_exit.Exits.{ExitRow, targets}
+use Rattle.k_mark.specs.Reached.{IsReached, begins, follows}
+use Rattle.k_mark.specs.Kept.{IsKept, IsLedTo, old_at}
+use Rattle.k_mark.specs.Marking.{lives_at, refers_at, some_lead_to}
 use Rattle.k_cell.specs.Carried.{IsWhole, known_bound}
 
 -- of the same objects that refer to the same

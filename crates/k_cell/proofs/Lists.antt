@@ -3,17 +3,17 @@ use Rattle.std.proofs.Common.{◌≡◌, ℕ, zero, suc, ◌+◌, ◌<◌, ◌&&
 use Rattle.std.specs.List.{list_any}
 use Rattle.std.proofs.lemmas.Bool.{false≢true}
 use Rattle.std.proofs.lemmas.List.{length-set, map-append}
-use Rattle.k_areas.specs.k_types.declared.names.Name.{Name}
-use Rattle.k_areas.specs.k_types.Names.{name_eq, name_lt, name_among}
-use Rattle.k_areas.specs.k_types.Owners.{object_bytes}
-use Rattle.k_areas.specs.k_types.Replies.{is_ref}
-use Rattle.k_areas.specs.k_types.State.{Content, Object, Refers, Holds}
-use Rattle.k_areas.specs.k_types.Totals.{total}
-use Rattle.k_areas.specs.k_types.Types.{object_size}
-use Rattle.k_areas.specs.k_types.Updates.{object_after_write, with_object}
-use Rattle.k_areas.specs.k_changes.CellChanges.{with_objects}
-use Rattle.k_areas.specs.k_exit.Exits.{ExitRow, ExitList, has_target, target_marked, targets, unmarked_row, with_target}
-use Rattle.k_areas.proofs.Named.{targets_named}
+use Rattle.k_mark.specs.k_types.declared.names.Name.{Name}
+use Rattle.k_mark.specs.k_types.Names.{name_eq, name_lt, name_among}
+use Rattle.k_mark.specs.k_types.Owners.{object_bytes}
+use Rattle.k_mark.specs.k_types.Replies.{is_ref}
+use Rattle.k_mark.specs.k_types.State.{Content, Object, Refers, Holds}
+use Rattle.k_mark.specs.k_types.Totals.{total}
+use Rattle.k_mark.specs.k_types.Types.{object_size}
+use Rattle.k_mark.specs.k_types.Updates.{object_after_write, with_object}
+use Rattle.k_mark.specs.k_laws.CellChanges.{with_objects}
+use Rattle.k_mark.specs.k_exit.Exits.{ExitRow, ExitList, has_target, target_marked, targets, unmarked_row, with_target}
+use Rattle.k_mark.proofs.Named.{targets_named}
 
 pub total_placed : (f : Object → ℕ) (o : Object) (xs : List Object) → total f (with_object o xs) ≡ f o + total f xs
 total_placed f o [] = refl

@@ -2,14 +2,14 @@
 use Rattle.std.proofs.Common.{◌≡◌, ◌≢◌, ◌⊎◌, ◌==◌, ℕ, zero, suc, ◌+◌, ◌<◌, ◌≤◌, refl, sym, ap, subst, ◌∙◌, inl, inr, List, [], ◌∷◌, map, Option, Some, None, is_some, count_by, eq-eqb, ne_eqb, arith}
 use Rattle.std.proofs.lemmas.Bool.{cases_eq}
 use Rattle.std.proofs.lemmas.List.Sums.{sum_by-append, sum_by-cons}
-use Rattle.k_areas.specs.k_types.State.{Object}
-use Rattle.k_areas.specs.k_space.Segments.{HasRoom, IsSegment, Row, SegmentValue, living, made, object_of, objects_from, unmarked_row, unmarked_segment}
-use Rattle.k_areas.specs.k_space.Areas.{segment_at}
-use Rattle.k_areas.proofs.AreaRows.{number_found}
-use Rattle.k_areas.proofs.GrayLists.{bit}
-use Rattle.k_areas.proofs.Taken.{room_made}
-use Rattle.k_areas.specs.Shown.{area_objects, objects_of_some}
-use Rattle.k_areas.proofs.Lists.{some_one}
+use Rattle.k_mark.specs.k_types.State.{Object}
+use Rattle.k_mark.specs.k_space.Segments.{HasRoom, IsSegment, Row, SegmentValue, living, made, object_of, objects_from, unmarked_row, unmarked_segment}
+use Rattle.k_mark.specs.k_space.Areas.{segment_at}
+use Rattle.k_mark.proofs.AreaRows.{number_found}
+use Rattle.k_mark.proofs.GrayLists.{bit}
+use Rattle.k_mark.proofs.Taken.{room_made}
+use Rattle.k_mark.specs.Shown.{area_objects, objects_of_some}
+use Rattle.k_mark.proofs.Lists.{some_one}
 use Rattle.k_cell.specs.Holdings.{living_in}
 use Rattle.k_cell.specs.Placed.{CanPlace}
 

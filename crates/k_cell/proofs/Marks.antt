@@ -4,47 +4,47 @@ use Rattle.std.specs.List.{list_any}
 use Rattle.std.proofs.Math.Path.{fun_ext}
 use Rattle.std.proofs.lemmas.List.{length-map}
 use Rattle.std.proofs.lemmas.List.Sorted.{list_any-IsPermutation}
-use Rattle.k_areas.specs.k_types.declared.names.Name.{Name}
-use Rattle.k_areas.specs.k_types.declared.names.Link.{Link}
-use Rattle.k_areas.specs.k_types.declared.names.CellPhase.{CellPhase}
-use Rattle.k_areas.specs.k_types.declared.names.CellPhase.TheVariants.{Idle, Begun, Marked}
-use Rattle.k_areas.specs.k_types.Names.{name_among, name_eq, name_of}
-use Rattle.k_areas.specs.k_types.Owners.{object_bytes}
-use Rattle.k_areas.specs.k_types.Reach.{reach_among}
-use Rattle.k_areas.specs.k_types.declared.names.TypeId.{TypeId}
-use Rattle.k_areas.specs.k_types.State.{Content, Object, refers, refers_in}
-use Rattle.k_areas.specs.k_types.Totals.{total}
+use Rattle.k_mark.specs.k_types.declared.names.Name.{Name}
+use Rattle.k_mark.specs.k_types.declared.names.Link.{Link}
+use Rattle.k_mark.specs.k_types.declared.names.CellPhase.{CellPhase}
+use Rattle.k_mark.specs.k_types.declared.names.CellPhase.TheVariants.{Idle, Begun, Marked}
+use Rattle.k_mark.specs.k_types.Names.{name_among, name_eq, name_of}
+use Rattle.k_mark.specs.k_types.Owners.{object_bytes}
+use Rattle.k_mark.specs.k_types.Reach.{reach_among}
+use Rattle.k_mark.specs.k_types.declared.names.TypeId.{TypeId}
+use Rattle.k_mark.specs.k_types.State.{Content, Object, refers, refers_in}
+use Rattle.k_mark.specs.k_types.Totals.{total}
 use Rattle.k_agree.proofs.NameTests.{name_eq-same}
-use Rattle.k_areas.specs.k_space.Segments.{Color, White, Gray, Black, Row, SegmentValue, is_black, is_marked, gray_or_black, made, some_black, some_marked}
-use Rattle.k_areas.specs.k_space.Areas.{AreaValue, black_at, gray_at, grayed, grayed_row, is_foreign, marked_at, row_of_name, segment_at, unmarked}
-use Rattle.k_areas.proofs.AreaRows.{same_unmarked}
-use Rattle.k_areas.specs.k_exit.Exits.{ExitList, ExitRow, IsTaken, has_target, target_marked, targets, unmarked as unmarked_exits}
-use Rattle.k_areas.proofs.Takes.{targets_distinct}
-use Rattle.k_areas.specs.k_mark.Marking.{IsExit, IsReachedIn, refers_at}
-use Rattle.k_areas.specs.k_mark.Listening.{dead_at}
-use Rattle.k_areas.specs.k_mark.Sweeping.{dead_bytes, dead_objects, dead_row, survivor, swept, swept_segment}
+use Rattle.k_mark.specs.k_space.Segments.{Color, White, Gray, Black, Row, SegmentValue, is_black, is_marked, gray_or_black, made, some_black, some_marked}
+use Rattle.k_mark.specs.k_space.Areas.{AreaValue, black_at, gray_at, grayed, grayed_row, is_foreign, marked_at, row_of_name, segment_at, unmarked}
+use Rattle.k_mark.proofs.AreaRows.{same_unmarked}
+use Rattle.k_mark.specs.k_exit.Exits.{ExitList, ExitRow, IsTaken, has_target, target_marked, targets, unmarked as unmarked_exits}
+use Rattle.k_mark.proofs.Takes.{targets_distinct}
+use Rattle.k_mark.specs.Marking.{IsExit, IsReachedIn, refers_at}
+use Rattle.k_mark.specs.Listening.{dead_at}
+use Rattle.k_mark.specs.Sweeping.{dead_bytes, dead_objects, dead_row, survivor, swept, swept_segment}
 use Rattle.k_agree.specs.k_tie.Values.{NoteValue}
 use Rattle.k_agree.specs.Marking.{begun, marked}
-use Rattle.k_areas.specs.Shown.{area_objects, AreNumberedBelow, HasNoneFrom}
-use Rattle.k_areas.specs.Lists.{black_names, gray_names, made_list}
-use Rattle.k_areas.specs.Parts.{IsMarkedPart}
-use Rattle.k_areas.proofs.Changed.{swept_objects}
-use Rattle.k_areas.proofs.Foreign.{area_has}
-use Rattle.k_areas.proofs.Found.{at_map, map_number, same_numbered}
-use Rattle.k_areas.proofs.Looked.{black_same, gray_one, gray_swept, row_swept, row_unmarked}
-use Rattle.k_areas.proofs.Named.{black_named, gray_named, made_listed, marked_named, targets_named, unmarked_gray_empty}
-use Rattle.k_areas.proofs.OfParts.{black_reached, exits_reached, map_begun, leads, black_marked}
-use Rattle.k_areas.proofs.Shown.{any_area}
-use Rattle.k_areas.proofs.Sums.{dead_counted, dead_weighed}
+use Rattle.k_mark.specs.Shown.{area_objects, AreNumberedBelow, HasNoneFrom}
+use Rattle.k_mark.specs.Lists.{black_names, gray_names, made_list}
+use Rattle.k_mark.specs.Parts.{IsMarkedPart}
+use Rattle.k_mark.proofs.Changed.{swept_objects}
+use Rattle.k_mark.proofs.Foreign.{area_has}
+use Rattle.k_mark.proofs.Found.{at_map, map_number, same_numbered}
+use Rattle.k_mark.proofs.Looked.{black_same, gray_one, gray_swept, row_swept, row_unmarked}
+use Rattle.k_mark.proofs.Named.{black_named, gray_named, made_listed, marked_named, targets_named, unmarked_gray_empty}
+use Rattle.k_mark.proofs.OfParts.{black_reached, exits_reached, map_begun, leads, black_marked}
+use Rattle.k_mark.proofs.Shown.{any_area}
+use Rattle.k_mark.proofs.Sums.{dead_counted, dead_weighed}
 use Rattle.k_cell.specs.Changes.{HasDroppedExit, HasItsExits, HasMarked, HasRoot, freed_at, with_black_alone}
 use Rattle.k_cell.specs.Holdings.{AreBegun, AreHoldings, AreMarksKept, cell_seen, holdings_seen, serial_rooms_of}
 use Rattle.k_cell.proofs.Areas.{AreAlike, alike, same_below}
 use Rattle.k_cell.proofs.Lists.{all_rows_marked, none_target_marked, unmarked_targets}
 use Rattle.k_cell.proofs.Seen.{same_cell, same_holdings}
-use Rattle.k_areas.proofs.Lists.{filter_stronger}
-use Rattle.k_areas.proofs.BaseSums.{bit, parts_sum}
-use Rattle.k_areas.proofs.Segs.{unmarked_twice}
-use Rattle.k_areas.proofs.Rows.{black_unmarked}
+use Rattle.k_mark.proofs.Lists.{filter_stronger}
+use Rattle.k_mark.proofs.BaseSums.{bit, parts_sum}
+use Rattle.k_mark.proofs.Segs.{unmarked_twice}
+use Rattle.k_mark.proofs.Rows.{black_unmarked}
 
 -- what the holdings are besides, with another area that differs in marks
 pub kept_alike : (bound bytes : ℕ) (phase other : CellPhase) (a b : AreaValue) (items others : List ExitRow) → AreAlike bound a b → AreHoldings bound bytes phase a items → AreMarksKept other b others → AreHoldings bound bytes other b others

@@ -1,31 +1,31 @@
 -- Segments that join holdings or leave them.
 use Rattle.std.proofs.Common.{◌≡◌, ◌≢◌, ◌==◌, not, filter, ℕ, zero, suc, ◌+◌, ◌<◌, ◌≤◌, cond, refl, sym, ap, ap₂, subst, ◌∙◌, inl, inr, List, [], ◌∷◌, ◌++◌, length, map, get_or, set, Option, Some, None, option_map, eq-eqb, ne_eqb, arith}
 use Rattle.std.proofs.lemmas.Bool.{cases_eq}
-use Rattle.k_areas.specs.k_types.declared.names.CellPhase.{CellPhase}
-use Rattle.k_areas.specs.k_types.declared.names.CellPhase.TheVariants.{Idle}
-use Rattle.k_areas.specs.k_types.Numbers.{numbers_below}
-use Rattle.k_areas.specs.k_types.Owners.{object_bytes}
-use Rattle.k_areas.specs.k_types.State.{Object}
-use Rattle.k_areas.specs.k_types.Totals.{total}
-use Rattle.k_areas.specs.k_changes.CellChanges.{with_objects}
-use Rattle.k_areas.specs.k_space.Segments.{SegmentValue, made, segment_bytes, segment_objects}
-use Rattle.k_areas.specs.k_space.Areas.{AreaValue, HasDistinct, segment_at}
-use Rattle.k_areas.proofs.AreaRows.{number_found}
-use Rattle.k_areas.specs.k_exit.Exits.{ExitList, ExitRow}
+use Rattle.k_mark.specs.k_types.declared.names.CellPhase.{CellPhase}
+use Rattle.k_mark.specs.k_types.declared.names.CellPhase.TheVariants.{Idle}
+use Rattle.k_mark.specs.k_types.Numbers.{numbers_below}
+use Rattle.k_mark.specs.k_types.Owners.{object_bytes}
+use Rattle.k_mark.specs.k_types.State.{Object}
+use Rattle.k_mark.specs.k_types.Totals.{total}
+use Rattle.k_mark.specs.k_laws.CellChanges.{with_objects}
+use Rattle.k_mark.specs.k_space.Segments.{SegmentValue, made, segment_bytes, segment_objects}
+use Rattle.k_mark.specs.k_space.Areas.{AreaValue, HasDistinct, segment_at}
+use Rattle.k_mark.proofs.AreaRows.{number_found}
+use Rattle.k_mark.specs.k_exit.Exits.{ExitList, ExitRow}
 use Rattle.k_agree.specs.k_tie.Values.{NoteValue}
-use Rattle.k_areas.specs.Shown.{area_objects, objects_of_some, AreNumberedBelow, HasNoneFrom, IsTakenOut}
-use Rattle.k_areas.specs.Lists.{made_list}
-use Rattle.k_areas.proofs.Found.{at_push_other, at_push_same, found_below}
-use Rattle.k_areas.proofs.Joined.{alone_area, joined_area, left_area, parted_area}
-use Rattle.k_areas.proofs.Named.{made_listed}
-use Rattle.k_areas.proofs.Sums.{segments_fewer}
+use Rattle.k_mark.specs.Shown.{area_objects, objects_of_some, AreNumberedBelow, HasNoneFrom, IsTakenOut}
+use Rattle.k_mark.specs.Lists.{made_list}
+use Rattle.k_mark.proofs.Found.{at_push_other, at_push_same, found_below}
+use Rattle.k_mark.proofs.Joined.{alone_area, joined_area, left_area, parted_area}
+use Rattle.k_mark.proofs.Named.{made_listed}
+use Rattle.k_mark.proofs.Sums.{segments_fewer}
 use Rattle.k_cell.specs.declared.rooms.HoldingRooms.{HoldingRooms}
 use Rattle.k_cell.specs.Holdings.{AreBegun, AreHoldings, HasGivenSegment, fresh_holdings, holdings_seen, serial_rooms_of, with_segment_added}
 use Rattle.k_cell.proofs.Areas.{rooms_listed, same_below}
 use Rattle.k_cell.proofs.Lists.{total_joined}
 use Rattle.k_cell.proofs.Seen.{same_cell, same_holdings}
-use Rattle.k_areas.proofs.KeptMarked.{at_same, at_other}
-use Rattle.k_areas.proofs.Lists.{set_below, some_one}
+use Rattle.k_mark.proofs.KeptMarked.{at_same, at_other}
+use Rattle.k_mark.proofs.Lists.{set_below, some_one}
 
 -- one segment alone
 module _ (seg : ℕ) (rooms : HoldingRooms) (s : SegmentValue) (is : s ≡ record { number = seg; room = rooms.objects; rows = None ∷ [] }) (below : seg < rooms.bound) where

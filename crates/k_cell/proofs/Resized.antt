@@ -2,25 +2,25 @@
 use Rattle.std.proofs.Common.{◌≡◌, ◌≢◌, not, Bool, ◌++◌, ℕ, zero, suc, ◌≤◌, refl, sym, ap, ap₂, subst, ◌∙◌, inl, inr, Result, Ok, Err, OnOk, OnErr, List, map, filter, get_or, set, Option, Some, None, is_some, option_map, arith}
 use Rattle.std.proofs.Math.Path.{fun_ext}
 use Rattle.std.proofs.lemmas.Bool.{cases_eq}
-use Rattle.k_areas.specs.k_types.declared.names.Name.{Name}
-use Rattle.k_areas.specs.k_types.declared.names.CellPhase.{CellPhase}
-use Rattle.k_areas.specs.k_types.declared.names.CellPhase.TheVariants.{Idle, Begun, Marked}
-use Rattle.k_areas.specs.k_types.Names.{name_among}
-use Rattle.k_areas.specs.k_types.Owners.{object_bytes}
-use Rattle.k_areas.specs.k_types.State.{Object}
-use Rattle.k_areas.specs.k_types.Totals.{total}
-use Rattle.k_areas.specs.k_space.declared.bound.Bound.{Bound}
-use Rattle.k_areas.specs.k_space.Segments.{Row, SegmentValue, living, some_black, some_gray}
-use Rattle.k_areas.specs.k_space.Areas.{AreaValue, black_at, fields_at, gray_at, is_foreign, place_of, row_in_segment, row_of_name, segment_at}
-use Rattle.k_areas.proofs.AreaRows.{number_found}
-use Rattle.k_areas.specs.k_exit.Exits.{ExitList, ExitRow}
+use Rattle.k_mark.specs.k_types.declared.names.Name.{Name}
+use Rattle.k_mark.specs.k_types.declared.names.CellPhase.{CellPhase}
+use Rattle.k_mark.specs.k_types.declared.names.CellPhase.TheVariants.{Idle, Begun, Marked}
+use Rattle.k_mark.specs.k_types.Names.{name_among}
+use Rattle.k_mark.specs.k_types.Owners.{object_bytes}
+use Rattle.k_mark.specs.k_types.State.{Object}
+use Rattle.k_mark.specs.k_types.Totals.{total}
+use Rattle.k_mark.specs.k_space.declared.bound.Bound.{Bound}
+use Rattle.k_mark.specs.k_space.Segments.{Row, SegmentValue, living, some_black, some_gray}
+use Rattle.k_mark.specs.k_space.Areas.{AreaValue, black_at, fields_at, gray_at, is_foreign, place_of, row_in_segment, row_of_name, segment_at}
+use Rattle.k_mark.proofs.AreaRows.{number_found}
+use Rattle.k_mark.specs.k_exit.Exits.{ExitList, ExitRow}
 use Rattle.k_agree.specs.k_tie.Values.{NoteValue}
-use Rattle.k_areas.specs.k_mark.Kept.{old_at}
-use Rattle.k_areas.specs.k_mark.Marking.{refers_at, some_lead_to}
-use Rattle.k_areas.specs.Shown.{area_objects, objects_of_some, AreNumberedBelow, HasNoneFrom}
-use Rattle.k_areas.specs.Lists.{made_list, names_where}
-use Rattle.k_areas.proofs.Found.{at_set_other, at_set_same, found_below}
-use Rattle.k_areas.proofs.Lists.{set_below}
+use Rattle.k_mark.specs.Kept.{old_at}
+use Rattle.k_mark.specs.Marking.{refers_at, some_lead_to}
+use Rattle.k_mark.specs.Shown.{area_objects, objects_of_some, AreNumberedBelow, HasNoneFrom}
+use Rattle.k_mark.specs.Lists.{made_list, names_where}
+use Rattle.k_mark.proofs.Found.{at_set_other, at_set_same, found_below}
+use Rattle.k_mark.proofs.Lists.{set_below}
 use Rattle.k_cell.specs.declared.carrying.Carried.{Carried}
 use Rattle.k_cell.specs.Carried.{AreMarkedFor, AreMarkedIn, IsCarried}
 use Rattle.k_cell.specs.Holdings.{AreBegun, AreHoldings, AreMarksKept, CanGrowTo, CanNarrowTo, black_in, gray_in, holdings_seen, living_in, serial_rooms_of}

@@ -2,19 +2,19 @@
 use Rattle.std.proofs.Common.{◌≡◌, ◌⊎◌, ◌↔◌, ◌&&◌, ◌<◌, ℕ, zero, suc, true, false, refl, sym, ap, subst, ◌∙◌, inl, inr, List, [], ◌∷◌, ◌++◌, length, slice_get, Option, Some, None, is_some}
 use Rattle.std.proofs.lemmas.Bool.{and_from, and_parts, false≢true, or_cases, or_left, or_right}
 use Rattle.std.proofs.lemmas.Option.{slice_get_within}
-use Rattle.k_areas.specs.k_types.declared.names.Name.{Name}
-use Rattle.k_areas.specs.k_types.Names.{name_among, name_eq}
-use Rattle.k_areas.proofs.Lists.{some_one}
+use Rattle.k_mark.specs.k_types.declared.names.Name.{Name}
+use Rattle.k_mark.specs.k_types.Names.{name_among, name_eq}
+use Rattle.k_mark.proofs.Lists.{some_one}
 use Rattle.k_agree.proofs.NameTests.{name_eq-same, name_eq-true}
-use Rattle.k_areas.specs.k_space.declared.bound.Bound.{Bound}
-use Rattle.k_areas.specs.k_space.Bounds.{is_covered}
-use Rattle.k_areas.specs.k_space.Segments.{Row, unmarked_row}
-use Rattle.k_areas.specs.k_space.Areas.{AreaValue, HasDistinct, black_at, fields_at, gray_at, grayed, row_of_name, unmarked}
-use Rattle.k_areas.specs.k_mark.Kept.{IsBeginning, IsExitFrom, IsKept, IsReachedFrom, old_at}
-use Rattle.k_areas.specs.k_mark.Marking.{IsExit, IsReachedIn, lives_at, refers_at, some_lead_to}
-use Rattle.k_areas.specs.k_mark.Reached.{IsReached}
-use Rattle.k_areas.proofs.Found.{same_distinct, unmarked_numbers}
-use Rattle.k_areas.proofs.Looked.{black_same, gray_one, row_unmarked}
+use Rattle.k_mark.specs.k_space.declared.bound.Bound.{Bound}
+use Rattle.k_mark.specs.k_space.Bounds.{is_covered}
+use Rattle.k_mark.specs.k_space.Segments.{Row, unmarked_row}
+use Rattle.k_mark.specs.k_space.Areas.{AreaValue, HasDistinct, black_at, fields_at, gray_at, grayed, row_of_name, unmarked}
+use Rattle.k_mark.specs.Kept.{IsBeginning, IsExitFrom, IsKept, IsReachedFrom, old_at}
+use Rattle.k_mark.specs.Marking.{IsExit, IsReachedIn, lives_at, refers_at, some_lead_to}
+use Rattle.k_mark.specs.Reached.{IsReached}
+use Rattle.k_mark.proofs.Found.{same_distinct, unmarked_numbers}
+use Rattle.k_mark.proofs.Looked.{black_same, gray_one, row_unmarked}
 use Rattle.k_cell.specs.Looks.{row_fields, row_type}
 use Rattle.k_cell.specs.Rooted.{AreGrayBut, grayed_all}
 use Rattle.k_cell.proofs.Carried.{any_name, foreign_alike, marks_kept, old_lives, unmarked_fields}

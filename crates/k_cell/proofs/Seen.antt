@@ -2,30 +2,30 @@
 use Rattle.std.proofs.Common.{◌≡◌, inl, inr, ℕ, ◌+◌, ◌<◌, Bool, true, false, cond, refl, sym, ap, ap₂, subst, ◌∙◌, List, [], length, map, get_or, set, slice_set, Option, Some, None, option_map, arith}
 use Rattle.std.proofs.lemmas.Bool.{cases_lt, false≢true}
 use Rattle.std.proofs.lemmas.List.{length-set}
-use Rattle.k_areas.specs.k_types.declared.names.Name.{Name}
-use Rattle.k_areas.specs.k_types.declared.names.Link.{Link}
-use Rattle.k_areas.specs.k_types.declared.names.CellPhase.{CellPhase}
-use Rattle.k_areas.specs.k_types.declared.names.CellPhase.TheVariants.{Idle}
-use Rattle.k_areas.specs.k_types.Agree.{CellValue}
-use Rattle.k_areas.specs.k_types.Names.{name_of}
-use Rattle.k_areas.specs.k_types.Owners.{object_bytes}
-use Rattle.k_areas.specs.k_types.Replies.{is_ref}
-use Rattle.k_areas.specs.k_types.State.{Content, Object, Holds, fields_of, object_at}
-use Rattle.k_areas.specs.k_types.Totals.{total}
-use Rattle.k_areas.specs.k_types.Types.{object_size}
-use Rattle.k_areas.specs.k_types.Updates.{object_after_write, with_object}
-use Rattle.k_areas.specs.k_changes.CellChanges.{given}
-use Rattle.k_areas.specs.k_space.Objects.{BodyValue}
-use Rattle.k_areas.specs.k_space.Segments.{Row, SegmentValue, living, made, placed, with_row}
-use Rattle.k_areas.specs.k_space.Areas.{AreaValue, place_of, row_of_name, segment_at, with_row_in}
-use Rattle.k_areas.proofs.AreaRows.{found, number_found, changed_is}
-use Rattle.k_areas.specs.k_exit.Exits.{ExitList, ExitRow, with_target}
+use Rattle.k_mark.specs.k_types.declared.names.Name.{Name}
+use Rattle.k_mark.specs.k_types.declared.names.Link.{Link}
+use Rattle.k_mark.specs.k_types.declared.names.CellPhase.{CellPhase}
+use Rattle.k_mark.specs.k_types.declared.names.CellPhase.TheVariants.{Idle}
+use Rattle.k_mark.specs.k_types.Agree.{CellValue}
+use Rattle.k_mark.specs.k_types.Names.{name_of}
+use Rattle.k_mark.specs.k_types.Owners.{object_bytes}
+use Rattle.k_mark.specs.k_types.Replies.{is_ref}
+use Rattle.k_mark.specs.k_types.State.{Content, Object, Holds, fields_of, object_at}
+use Rattle.k_mark.specs.k_types.Totals.{total}
+use Rattle.k_mark.specs.k_types.Types.{object_size}
+use Rattle.k_mark.specs.k_types.Updates.{object_after_write, with_object}
+use Rattle.k_mark.specs.k_laws.CellChanges.{given}
+use Rattle.k_mark.specs.k_space.Objects.{BodyValue}
+use Rattle.k_mark.specs.k_space.Segments.{Row, SegmentValue, living, made, placed, with_row}
+use Rattle.k_mark.specs.k_space.Areas.{AreaValue, place_of, row_of_name, segment_at, with_row_in}
+use Rattle.k_mark.proofs.AreaRows.{found, number_found, changed_is}
+use Rattle.k_mark.specs.k_exit.Exits.{ExitList, ExitRow, with_target}
 use Rattle.k_agree.specs.k_tie.Values.{NoteValue}
-use Rattle.k_areas.specs.Shown.{area_objects, AreNumberedBelow, HasNoneFrom}
-use Rattle.k_areas.specs.Lists.{made_list}
-use Rattle.k_areas.proofs.Changed.{written_area}
-use Rattle.k_areas.proofs.Joined.{placed_area}
-use Rattle.k_areas.proofs.Named.{made_listed}
+use Rattle.k_mark.specs.Shown.{area_objects, AreNumberedBelow, HasNoneFrom}
+use Rattle.k_mark.specs.Lists.{made_list}
+use Rattle.k_mark.proofs.Changed.{written_area}
+use Rattle.k_mark.proofs.Joined.{placed_area}
+use Rattle.k_mark.proofs.Named.{made_listed}
 use Rattle.k_cell.specs.Changes.{next_in, with_body, with_exit_item, with_field}
 use Rattle.k_cell.specs.Holdings.{HoldingsValue, AreBegun, AreHoldings, AreMarksKept, HasObjectRoom, cell_seen, holdings_seen, living_in, serial_rooms_of}
 use Rattle.k_cell.specs.Looks.{field_among, field_count_among, row_fields}

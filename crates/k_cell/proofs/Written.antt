@@ -1,13 +1,13 @@
 -- A field of an object that is looked up in a segment lent by its area, and is written there.
 use Rattle.std.proofs.Common.{◌≡◌, ◌⊎◌, inl, inr, ℕ, zero, suc, Bool, true, false, refl, sym, ap, subst, ◌∙◌, List, [], ◌∷◌, set, slice_get, slice_set, Option, Some, None, option_map}
-use Rattle.k_areas.specs.k_types.declared.names.Name.{Name}
-use Rattle.k_areas.specs.k_types.declared.names.Field.{Field}
-use Rattle.k_areas.specs.k_types.declared.names.Field.TheVariants.{Int, Ref}
-use Rattle.k_areas.specs.k_types.State.{Content, Holds, Refers, field_kind}
-use Rattle.k_areas.specs.k_space.Objects.{HasInt, HasRef}
-use Rattle.k_areas.specs.k_space.Segments.{LiesAt, Row, SegmentValue, row_at, with_row}
-use Rattle.k_areas.specs.k_space.Areas.{AreaValue, place_of, row_in_segment, row_of_name, segment_at, with_row_in, with_segment}
-use Rattle.k_areas.proofs.Lists.{some_one}
+use Rattle.k_mark.specs.k_types.declared.names.Name.{Name}
+use Rattle.k_mark.specs.k_types.declared.names.Field.{Field}
+use Rattle.k_mark.specs.k_types.declared.names.Field.TheVariants.{Int, Ref}
+use Rattle.k_mark.specs.k_types.State.{Content, Holds, Refers, field_kind}
+use Rattle.k_mark.specs.k_space.Objects.{HasInt, HasRef}
+use Rattle.k_mark.specs.k_space.Segments.{LiesAt, Row, SegmentValue, row_at, with_row}
+use Rattle.k_mark.specs.k_space.Areas.{AreaValue, place_of, row_in_segment, row_of_name, segment_at, with_row_in, with_segment}
+use Rattle.k_mark.proofs.Lists.{some_one}
 use Rattle.k_cell.specs.Looks.{holds_int, holds_ref, row_fields}
 use Rattle.k_cell.specs.Placed.{IsWrittenIf, IsWrittenIn}
 

@@ -1,15 +1,15 @@
 -- What a cell knows of its last collection.
 use Rattle.std.specs.Prelude.{◌≤◌, ◌↔◌, ℕ, Bool, List, IsTrue, length, take, if◌then◌else◌}
-use Rattle.k_areas.specs.k_types.declared.names.Name.{Name}
-use Rattle.k_areas.specs.k_types.declared.names.CellPhase.{CellPhase}
-use Rattle.k_areas.specs.k_types.declared.names.CellPhase.TheVariants.{Idle, Begun, Marked}
-use Rattle.k_areas.specs.k_types.Names.{name_among}
-use Rattle.k_areas.specs.k_space.declared.bound.Bound.{Bound}
-use Rattle.k_areas.specs.k_space.Bounds.{nothing}
-use Rattle.k_areas.specs.k_space.Areas.{AreaValue, black_at}
-use Rattle.k_areas.specs.k_exit.Exits.{ExitRow, target_marked, targets}
-use Rattle.k_areas.specs.k_mark.Kept.{IsKept, IsLedTo, old_at}
-use Rattle.k_areas.specs.k_mark.Marking.{refers_at}
+use Rattle.k_mark.specs.k_types.declared.names.Name.{Name}
+use Rattle.k_mark.specs.k_types.declared.names.CellPhase.{CellPhase}
+use Rattle.k_mark.specs.k_types.declared.names.CellPhase.TheVariants.{Idle, Begun, Marked}
+use Rattle.k_mark.specs.k_types.Names.{name_among}
+use Rattle.k_mark.specs.k_space.declared.bound.Bound.{Bound}
+use Rattle.k_mark.specs.k_space.Bounds.{nothing}
+use Rattle.k_mark.specs.k_space.Areas.{AreaValue, black_at}
+use Rattle.k_mark.specs.k_exit.Exits.{ExitRow, target_marked, targets}
+use Rattle.k_mark.specs.Kept.{IsKept, IsLedTo, old_at}
+use Rattle.k_mark.specs.Marking.{refers_at}
 use Rattle.k_cell.specs.declared.carrying.Carried.{Carried}
 
 -- that bound where it is known that what it covers is reached, else none

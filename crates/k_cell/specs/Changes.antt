@@ -1,14 +1,14 @@
 -- What calls change of a cell, as functions of its value.
 use Rattle.std.specs.Prelude.{◌≡◌, ℕ, Bool, ◌+◌, ◌==◌, ◌&&◌, ◌||◌, not, [], ◌∷◌, ◌++◌, map, filter, length, slice_index_or, slice_set, Option, Some, None, IsTrue, if◌then◌else◌}
-use Rattle.k_areas.specs.k_types.declared.names.Name.{Name}
-use Rattle.k_areas.specs.k_types.Agree.{CellValue}
-use Rattle.k_areas.specs.k_types.Names.{name_eq, name_among}
-use Rattle.k_areas.specs.k_types.State.{Content, Holds, Refers, has, refers_in}
-use Rattle.k_areas.specs.k_types.Updates.{object_after_write, with_object}
-use Rattle.k_areas.specs.k_base.Distinct.{AreDistinctNames}
-use Rattle.k_areas.specs.k_space.Objects.{BodyValue}
-use Rattle.k_areas.specs.k_space.Segments.{SegmentValue, made, segment_objects}
-use Rattle.k_areas.specs.k_changes.CellChanges.{given, with_objects}
+use Rattle.k_mark.specs.k_types.declared.names.Name.{Name}
+use Rattle.k_mark.specs.k_types.Agree.{CellValue}
+use Rattle.k_mark.specs.k_types.Names.{name_eq, name_among}
+use Rattle.k_mark.specs.k_types.State.{Content, Holds, Refers, has, refers_in}
+use Rattle.k_mark.specs.k_types.Updates.{object_after_write, with_object}
+use Rattle.k_mark.specs.k_types.Distinct.{AreDistinctNames}
+use Rattle.k_mark.specs.k_space.Objects.{BodyValue}
+use Rattle.k_mark.specs.k_space.Segments.{SegmentValue, made, segment_objects}
+use Rattle.k_mark.specs.k_laws.CellChanges.{given, with_objects}
 use Rattle.k_cell.specs.Looks.{found_among, holds_int, holds_ref}
 use Rattle.k_agree.specs.Marking.{AreReached, begun, is_foreign_in, marked}
 

@@ -1,22 +1,22 @@
 -- What is seen of the holdings of a cell, and how the tables show it.
 use Rattle.std.specs.Prelude.{◌≡◌, ◌⊎◌, ◌+◌, ◌^◌, ◌<◌, ◌≤◌, ◌==◌, count_by, if◌then◌else◌, slice_set, ℕ, List, [], map, length, slice_index_or, Option, Some, None, option_map, IsFalse}
-use Rattle.k_areas.specs.k_types.declared.names.Name.{Name}
-use Rattle.k_areas.specs.k_types.declared.names.CellPhase.{CellPhase}
-use Rattle.k_areas.specs.k_types.declared.names.CellPhase.TheVariants.{Idle, Begun, Marked}
-use Rattle.k_areas.specs.k_types.Agree.{CellValue}
-use Rattle.k_areas.specs.k_types.Numbers.{numbers_below}
-use Rattle.k_areas.specs.k_types.Owners.{object_bytes}
-use Rattle.k_areas.specs.k_types.State.{Object}
-use Rattle.k_areas.specs.k_types.Totals.{total}
-use Rattle.k_areas.specs.k_space.Segments.{SegmentValue, made, segment_objects}
-use Rattle.k_areas.specs.k_space.Areas.{AreaValue, segment_at, gray_at, black_at}
-use Rattle.k_areas.specs.k_exit.Exits.{ExitList, ExitRow, target_marked, targets}
-use Rattle.k_areas.specs.k_changes.CellChanges.{with_objects}
+use Rattle.k_mark.specs.k_types.declared.names.Name.{Name}
+use Rattle.k_mark.specs.k_types.declared.names.CellPhase.{CellPhase}
+use Rattle.k_mark.specs.k_types.declared.names.CellPhase.TheVariants.{Idle, Begun, Marked}
+use Rattle.k_mark.specs.k_types.Agree.{CellValue}
+use Rattle.k_mark.specs.k_types.Numbers.{numbers_below}
+use Rattle.k_mark.specs.k_types.Owners.{object_bytes}
+use Rattle.k_mark.specs.k_types.State.{Object}
+use Rattle.k_mark.specs.k_types.Totals.{total}
+use Rattle.k_mark.specs.k_space.Segments.{SegmentValue, made, segment_objects}
+use Rattle.k_mark.specs.k_space.Areas.{AreaValue, segment_at, gray_at, black_at}
+use Rattle.k_mark.specs.k_exit.Exits.{ExitList, ExitRow, target_marked, targets}
+use Rattle.k_mark.specs.k_laws.CellChanges.{with_objects}
 use Rattle.k_cell.specs.declared.rooms.HoldingRooms.{HoldingRooms}
 use Rattle.k_cell.specs.Changes.{with_segment_of, without_segment}
 use Rattle.k_agree.specs.k_tie.Values.{NoteValue}
-use Rattle.k_areas.specs.Shown.{area_objects, AreNumberedBelow}
-use Rattle.k_areas.specs.Lists.{made_list, gray_names, black_names, marked_targets}
+use Rattle.k_mark.specs.Shown.{area_objects, AreNumberedBelow}
+use Rattle.k_mark.specs.Lists.{made_list, gray_names, black_names, marked_targets}
 
 -- what a cell shows of its heap, its note, and the rooms: how many numbers for segments there are, how many segments the cell
 -- can have, how many objects can live in each of them at once, and how many exit items there can be

@@ -1,10 +1,10 @@
 -- What look-ups of an object find, among the objects as the machine has them and in an area.
 use Rattle.std.specs.Prelude.{ℕ, Bool, false, List, [], length, not, slice_get, slice_index_or, Option, Some, None}
-use Rattle.k_areas.specs.k_types.declared.names.Name.{Name}
-use Rattle.k_areas.specs.k_types.declared.names.TypeId.{TypeId}
-use Rattle.k_areas.specs.k_types.Replies.{is_ref}
-use Rattle.k_areas.specs.k_types.State.{Content, Holds, Object, fields_of, object_at}
-use Rattle.k_areas.specs.k_space.Segments.{Row}
+use Rattle.k_mark.specs.k_types.declared.names.Name.{Name}
+use Rattle.k_mark.specs.k_types.declared.names.TypeId.{TypeId}
+use Rattle.k_mark.specs.k_types.Replies.{is_ref}
+use Rattle.k_mark.specs.k_types.State.{Content, Holds, Object, fields_of, object_at}
+use Rattle.k_mark.specs.k_space.Segments.{Row}
 
 -- what the field of the object holds; the number 0 where there is no such field
 abbrev pub field_among : List Object → Name → ℕ → Content

@@ -1,11 +1,11 @@
 -- What changes of one segment make of an area.
 use Rattle.std.specs.Prelude.{◌≡◌, ◌⊎◌, ℕ, ◌<◌, ◌≤◌, Bool, true, false, List, length, slice_set, Some}
-use Rattle.k_areas.specs.k_types.declared.names.Name.{Name}
-use Rattle.k_areas.specs.k_types.declared.names.Link.{Link}
-use Rattle.k_areas.specs.k_types.State.{Content}
-use Rattle.k_areas.specs.k_space.Objects.{BodyValue, HasInt, HasRef}
-use Rattle.k_areas.specs.k_space.Segments.{HasRoom, Row, SegmentValue, living, made, placed}
-use Rattle.k_areas.specs.k_space.Areas.{AreaValue, row_of_name, segment_at, with_row_of, with_segment}
+use Rattle.k_mark.specs.k_types.declared.names.Name.{Name}
+use Rattle.k_mark.specs.k_types.declared.names.Link.{Link}
+use Rattle.k_mark.specs.k_types.State.{Content}
+use Rattle.k_mark.specs.k_space.Objects.{BodyValue, HasInt, HasRef}
+use Rattle.k_mark.specs.k_space.Segments.{HasRoom, Row, SegmentValue, living, made, placed}
+use Rattle.k_mark.specs.k_space.Areas.{AreaValue, row_of_name, segment_at, with_row_of, with_segment}
 
 -- the segment of that number is there and has room for one more object, which it has where fewer serials were given
 pub record CanPlace (segments : List SegmentValue) (number : ℕ) : Type 0 where

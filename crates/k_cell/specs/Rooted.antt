@@ -1,10 +1,10 @@
 -- Roots that are noted before they are gray.
 use Rattle.std.specs.Prelude.{◌≡◌, ◌⊎◌, IsTrue, IsFalse, List, [], ◌∷◌}
-use Rattle.k_areas.specs.k_types.declared.names.Name.{Name}
-use Rattle.k_areas.specs.k_types.Names.{name_among}
-use Rattle.k_areas.specs.k_space.declared.bound.Bound.{Bound}
-use Rattle.k_areas.specs.k_space.Bounds.{is_covered}
-use Rattle.k_areas.specs.k_space.Areas.{AreaValue, black_at, gray_at, grayed, unmarked}
+use Rattle.k_mark.specs.k_types.declared.names.Name.{Name}
+use Rattle.k_mark.specs.k_types.Names.{name_among}
+use Rattle.k_mark.specs.k_space.declared.bound.Bound.{Bound}
+use Rattle.k_mark.specs.k_space.Bounds.{is_covered}
+use Rattle.k_mark.specs.k_space.Areas.{AreaValue, black_at, gray_at, grayed, unmarked}
 
 -- the area where each of these objects is gray, if it was white
 abbrev pub grayed_all : AreaValue → List Name → AreaValue

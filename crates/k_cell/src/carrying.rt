@@ -1,15 +1,15 @@
 //! What a cell knows of its last collection, so that the next one need not look again at what is as it was.
 ghost use Rattle.std.specs.Prelude.{◌≡◌, IsFalse, IsTrue, Some, false, true};
-ghost use Rattle.k_areas.specs.k_types.Names.{name_among};
-ghost use Rattle.k_areas.specs.k_types.declared.names.Name.{Name as Named};
-ghost use Rattle.k_areas.specs.k_space.Areas.{HasDistinct, gray_at};
-ghost use Rattle.k_areas.specs.k_space.Bounds.{is_covered};
+ghost use Rattle.k_mark.specs.k_types.Names.{name_among};
+ghost use Rattle.k_mark.specs.k_types.declared.names.Name.{Name as Named};
+ghost use Rattle.k_mark.specs.k_space.Areas.{HasDistinct, gray_at};
+ghost use Rattle.k_mark.specs.k_space.Bounds.{is_covered};
 ghost use Rattle.k_cell.specs.Carried.{known_bound};
-ghost use Rattle.k_areas.specs.k_mark.Kept.{IsKept, old_at};
-ghost use Rattle.k_areas.specs.k_mark.Marking.{refers_at};
+ghost use Rattle.k_mark.specs.Kept.{IsKept, old_at};
+ghost use Rattle.k_mark.specs.Marking.{refers_at};
 
 use crate::looking::lives_at;
-use k_areas::{Area, Bound, Name};
+use k_mark::{Area, Bound, Name};
 
 /// What the last collection kept, and from which roots it is reached.
 #[derive(Drop)]

@@ -1,13 +1,13 @@
 //! More or less room for holdings.
 ghost use Rattle.std.specs.Prelude.{◌≡◌, ◌<◌, ◌≤◌, ◌+◌, ◌^◌, Some, OnErr, OnOk, length, slice_set};
-ghost use Rattle.k_areas.specs.k_space.Segments.{SegmentValue, living};
-ghost use Rattle.k_areas.specs.k_space.Areas.{HasDistinct, segment_at};
+ghost use Rattle.k_mark.specs.k_space.Segments.{SegmentValue, living};
+ghost use Rattle.k_mark.specs.k_space.Areas.{HasDistinct, segment_at};
 ghost use Rattle.k_cell.specs.Holdings.{AreWithin, CanGrowTo, CanNarrowTo};
 ghost use Rattle.k_cell.specs.Placed.{CanGrow, CanNarrow, IsResized};
 
 use crate::holding::Holdings;
 use crate::rooting::{RootedArea, settle};
-use k_areas::{Area, ExitRoom, NoMemory, Seg};
+use k_mark::{Area, ExitRoom, NoMemory, Seg};
 
 /// Lets so many objects live at once in the segment of that number, which is no fewer than before.
 fn grow_in(area: &mut Area, seg: Seg, room: u32) -> Result<(), NoMemory>

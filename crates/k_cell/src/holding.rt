@@ -2,31 +2,31 @@
 ghost use Rattle.std.specs.Prelude.{◌≡◌, ◌↔◌, ◌+◌, ◌<◌, ◌≤◌, ◌^◌, ◌==◌, ◌⊎◌, not, [], IfOk, IfSome, IfNone, IsFalse, IsTrue, Some, None, length, map, nat_lt, option_map, slice_get, slice_index_or, if◌then◌else◌};
 ghost use Rattle.std.specs.List.{list_any};
 ghost use Rattle.std.specs.Borrow.{sem};
-ghost use Rattle.k_areas.specs.k_types.Agree.{CellValue};
-ghost use Rattle.k_areas.specs.k_types.Names.{name_among, name_of};
-ghost use Rattle.k_areas.specs.k_types.Numbers.{numbers_below};
-ghost use Rattle.k_areas.specs.k_types.Owners.{object_bytes};
-ghost use Rattle.k_areas.specs.k_types.Replies.{is_ref, number_in, reference};
-ghost use Rattle.k_areas.specs.k_types.State.{Holds, Refers, field_kind, has};
-ghost use Rattle.k_areas.specs.k_types.Totals.{total};
-ghost use Rattle.k_areas.specs.k_types.Types.{object_size};
-ghost use Rattle.k_areas.specs.k_types.declared.names.CellPhase.TheVariants.{Begun, Idle, Marked};
-ghost use Rattle.k_areas.specs.k_types.declared.names.Name.{Name as Named};
-ghost use Rattle.k_areas.specs.k_base.Distinct.{AreDistinctNames};
-ghost use Rattle.k_areas.specs.k_space.Objects.{content_of};
-ghost use Rattle.k_areas.specs.k_space.Segments.{made, segment_bytes};
+ghost use Rattle.k_mark.specs.k_types.Agree.{CellValue};
+ghost use Rattle.k_mark.specs.k_types.Names.{name_among, name_of};
+ghost use Rattle.k_mark.specs.k_types.Numbers.{numbers_below};
+ghost use Rattle.k_mark.specs.k_types.Owners.{object_bytes};
+ghost use Rattle.k_mark.specs.k_types.Replies.{is_ref, number_in, reference};
+ghost use Rattle.k_mark.specs.k_types.State.{Holds, Refers, field_kind, has};
+ghost use Rattle.k_mark.specs.k_types.Totals.{total};
+ghost use Rattle.k_mark.specs.k_types.Types.{object_size};
+ghost use Rattle.k_mark.specs.k_types.declared.names.CellPhase.TheVariants.{Begun, Idle, Marked};
+ghost use Rattle.k_mark.specs.k_types.declared.names.Name.{Name as Named};
+ghost use Rattle.k_mark.specs.k_types.Distinct.{AreDistinctNames};
+ghost use Rattle.k_mark.specs.k_space.Objects.{content_of};
+ghost use Rattle.k_mark.specs.k_space.Segments.{made, segment_bytes};
 ghost use Rattle.k_agree.specs.Marking.{begun};
 ghost use Rattle.k_agree.specs.Ending.{freed_bytes, freed_objects};
 ghost use Rattle.k_cell.specs.Looks.{field_among, field_count_among, found_among, type_among};
 ghost use Rattle.k_cell.specs.Changes.{HasDroppedExit, HasGrayed, HasItsExits, HasMarked, HasRoot, next_in, with_black_alone, with_body, with_exit_item, with_field, with_put, with_stored, freed_at};
-ghost use Rattle.k_areas.specs.k_mark.Listening.{AreTold};
+ghost use Rattle.k_mark.specs.Listening.{AreTold};
 ghost use Rattle.k_cell.specs.Holdings.{HasGivenSegment, HasObjectRoom, fresh_holdings, with_segment_added};
 
 use crate::carrying::{Carried, still_whole};
 use crate::rooms::HoldingRooms;
 use crate::rooting::RootedArea;
 use k_agree::Note;
-use k_areas::{
+use k_mark::{
     Body, Bound, CellPhase, ExitTable, Link, Listener, Name, NoMemory, Nobody, Seg, Segment,
     Stored, Swept, TypeId,
 };

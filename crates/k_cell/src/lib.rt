@@ -12,5 +12,5 @@ mod writing;
 
 pub use holding::Holdings;
 pub use k_agree::Note;
-pub use k_areas::{Body, ExitRoom, Listener, Segment, Stored, Swept};
+pub use k_mark::{Body, ExitRoom, Listener, Segment, Stored, Swept};
 pub use rooms::HoldingRooms;

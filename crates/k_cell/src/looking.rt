@@ -1,13 +1,13 @@
 //! Look-ups of one object in an area, by its name or by a reference with a hint of its slot, and of room for one more.
 ghost use Rattle.std.specs.Prelude.{◌≡◌, ◌↔◌, IsTrue, is_some, length, option_map, slice_get, slice_index_or};
-ghost use Rattle.k_areas.specs.k_types.Names.{name_of};
-ghost use Rattle.k_areas.specs.k_types.State.{Holds};
-ghost use Rattle.k_areas.specs.k_space.Areas.{HasDistinct, row_of_name};
-ghost use Rattle.k_areas.specs.k_space.Objects.{content_of};
+ghost use Rattle.k_mark.specs.k_types.Names.{name_of};
+ghost use Rattle.k_mark.specs.k_types.State.{Holds};
+ghost use Rattle.k_mark.specs.k_space.Areas.{HasDistinct, row_of_name};
+ghost use Rattle.k_mark.specs.k_space.Objects.{content_of};
 ghost use Rattle.k_cell.specs.Looks.{row_fields, row_type};
 ghost use Rattle.k_cell.specs.Placed.{CanPlace};
 
-use k_areas::{Area, Link, Name, Seg, Stored, TypeId};
+use k_mark::{Area, Link, Name, Seg, Stored, TypeId};
 
 /// Whether the object is there.
 pub(crate) fn lives_at(area: &Area, at: Name) -> bool

@@ -1,15 +1,15 @@
 //! The segments of a heap, whose roots are noted first and made gray later.
 ghost use Rattle.std.specs.Prelude.{◌≡◌, ◌≢◌, ◌+◌, ◌<◌, ◌^◌, ◌↔◌, ℕ, ◌++◌, ◌∷◌, [], IfNone, IfOk, IfSome, IsFalse, IsTrue, None, Some, is_some, length, option_map, slice_get, slice_index_or, ◌≤◌};
-ghost use Rattle.k_areas.specs.k_types.Names.{name_among, name_eq, name_of};
-ghost use Rattle.k_areas.specs.k_types.State.{Holds, Refers, field_kind};
-ghost use Rattle.k_areas.specs.k_types.declared.names.Name.{Name as Named};
-ghost use Rattle.k_areas.specs.k_space.Areas.{HasDistinct, black_at, gray_at, grayed, is_foreign, marked_at, row_of_name, segment_at, unmarked};
-ghost use Rattle.k_areas.specs.k_space.Objects.{content_of};
-ghost use Rattle.k_areas.specs.k_exit.Exits.{has_target, target_marked, targets, unmarked as unmarked_exits};
-ghost use Rattle.k_areas.specs.k_mark.Kept.{IsBeginning, IsKept, old_at};
-ghost use Rattle.k_areas.specs.k_mark.Listening.{AreTold, dead_at};
-ghost use Rattle.k_areas.specs.k_mark.Marking.{IsExit, IsReachedIn, refers_at};
-ghost use Rattle.k_areas.specs.k_mark.Sweeping.{dead_bytes, dead_objects, swept};
+ghost use Rattle.k_mark.specs.k_types.Names.{name_among, name_eq, name_of};
+ghost use Rattle.k_mark.specs.k_types.State.{Holds, Refers, field_kind};
+ghost use Rattle.k_mark.specs.k_types.declared.names.Name.{Name as Named};
+ghost use Rattle.k_mark.specs.k_space.Areas.{HasDistinct, black_at, gray_at, grayed, is_foreign, marked_at, row_of_name, segment_at, unmarked};
+ghost use Rattle.k_mark.specs.k_space.Objects.{content_of};
+ghost use Rattle.k_mark.specs.k_exit.Exits.{has_target, target_marked, targets, unmarked as unmarked_exits};
+ghost use Rattle.k_mark.specs.Kept.{IsBeginning, IsKept, old_at};
+ghost use Rattle.k_mark.specs.Listening.{AreTold, dead_at};
+ghost use Rattle.k_mark.specs.Marking.{IsExit, IsReachedIn, refers_at};
+ghost use Rattle.k_mark.specs.Sweeping.{dead_bytes, dead_objects, swept};
 ghost use Rattle.k_cell.specs.Carried.{IsWhole, known_bound};
 ghost use Rattle.k_cell.specs.Looks.{holds_int, holds_ref, row_fields, row_type};
 ghost use Rattle.k_cell.specs.Placed.{CanPlace, IsIntAt, IsPlacedIn, IsRefAt, IsWrittenIf, IsWrittenIn};
@@ -18,7 +18,7 @@ ghost use Rattle.k_cell.specs.Rooted.{AreGrayBut, grayed_all};
 use crate::carrying::{is_reached_still, known_bound, known_first, marked_below};
 use crate::looking::{count_at, field_at, found_at, has_room_in, lives_at, type_at};
 use crate::writing::{place_in, put_in, store_in, write_int_in, write_ref_in};
-use k_areas::{
+use k_mark::{
     Area, Body, Bound, ExitTable, Link, Listener, Name, NoMemory, Seg, Segment, Stored, Swept,
     TypeId, clear, mark_kept, root, sweep_telling,
 };
@@ -48,7 +48,7 @@ impl Drop for RootedArea {
 }
 
 impl Model for RootedArea {
-    ghost use Rattle.k_areas.specs.k_space.Areas.{AreaValue};
+    ghost use Rattle.k_mark.specs.k_space.Areas.{AreaValue};
     ghost use Rattle.k_cell.specs.Rooted.{grayed_all};
 
     ghost Value = { AreaValue };
@@ -56,8 +56,8 @@ impl Model for RootedArea {
     ghost view = { λ r. grayed_all r.area r.noted.items };
 
     ghost use Rattle.std.specs.Prelude.{IsFalse, IsTrue};
-    ghost use Rattle.k_areas.specs.k_types.declared.names.Name.{Name as Named};
-    ghost use Rattle.k_areas.specs.k_space.Areas.{gray_at};
+    ghost use Rattle.k_mark.specs.k_types.declared.names.Name.{Name as Named};
+    ghost use Rattle.k_mark.specs.k_space.Areas.{gray_at};
 
     ghost invariant = { λ r. IsTrue r.all_noted → (n : Named) → IsFalse (gray_at r.area n) };
 }

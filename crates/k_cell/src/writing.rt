@@ -1,12 +1,12 @@
 //! Changes of one segment of an area.
 ghost use Rattle.std.specs.Prelude.{◌≡◌, option_map, slice_get};
-ghost use Rattle.k_areas.specs.k_types.Names.{name_of};
-ghost use Rattle.k_areas.specs.k_types.State.{Holds, Refers, field_kind};
-ghost use Rattle.k_areas.specs.k_space.Areas.{HasDistinct, row_of_name};
+ghost use Rattle.k_mark.specs.k_types.Names.{name_of};
+ghost use Rattle.k_mark.specs.k_types.State.{Holds, Refers, field_kind};
+ghost use Rattle.k_mark.specs.k_space.Areas.{HasDistinct, row_of_name};
 ghost use Rattle.k_cell.specs.Looks.{holds_int, holds_ref, row_fields};
 ghost use Rattle.k_cell.specs.Placed.{CanPlace, IsIntAt, IsPlacedIn, IsRefAt, IsWrittenIf, IsWrittenIn};
 
-use k_areas::{Area, Body, Link, Seg};
+use k_mark::{Area, Body, Link, Seg};
 use k_types::Field;
 
 /// Puts an object into the segment of that number.

@@ -11,7 +11,7 @@ use Rattle.k_types.specs.Complete.{IsPrefixOf}
 use Rattle.k_types.specs.State.{opening}
 use Rattle.k_types.specs.Steps.{IsPossible, done_by, state_after}
 use Rattle.k_types.specs.Trace.{Trace, process_count, operations_of}
-use Rattle.k_frame.proofs.Histories.{done_append, legal_append, legal_rest}
+use Rattle.k_laws.proofs.Histories.{done_append, legal_append, legal_rest}
 use Rattle.k_reports.specs.Begun.{IsBegun}
 use Rattle.k_history.proofs.Possible.{at_process, itself}
 use Rattle.k_check.specs.Turns.{IsInTurn}

@@ -4,8 +4,8 @@ use Rattle.k_types.specs.declared.event.Event.{Event}
 use Rattle.k_types.specs.Steps.{state_after}
 use Rattle.k_types.specs.Trace.{Trace}
 use Rattle.k_types.specs.TraceRules.{KeepsRules}
-use Rattle.k_bounds.proofs.Laws.{histories_are_short}
-use Rattle.k_known.proofs.Laws.{histories_do_the_operations_of_the_trace}
+use Rattle.k_laws.proofs.BoundsLaws.{histories_are_short}
+use Rattle.k_laws.proofs.KnownLaws.{histories_do_the_operations_of_the_trace}
 use Rattle.k_reports.specs.Begun.{IsBegun}
 use Rattle.k_state.specs.Rooms.{HasRoom}
 use Rattle.k_state.specs.Machines.{Machine}

@@ -4,7 +4,7 @@ use Rattle.std.specs.Prelude.{slice_get}
 use Rattle.std.specs.List.{AllByRecursion}
 use Rattle.k_types.specs.declared.op.Op.{Op}
 use Rattle.k_types.specs.Known.{IsKnownEvent}
-use Rattle.k_known.proofs.Laws.{events_are_known}
+use Rattle.k_laws.proofs.KnownLaws.{events_are_known}
 use Rattle.k_solo.proofs.Lines.{setup_rules}
 use Rattle.k_solo.specs.Runs.{Run}
 use Rattle.k_types.specs.declared.event.Event.{Event}
@@ -15,8 +15,8 @@ use Rattle.k_types.specs.Steps.{IsPossible, done_by, state_after}
 use Rattle.k_types.specs.Trace.{Trace, operations_of, process_count}
 use Rattle.k_trace.specs.Named.{NamedTrace}
 use Rattle.k_trace.specs.Rules.{IsTrace}
-use Rattle.k_frame.proofs.Histories.{run_append}
-use Rattle.k_bounds.proofs.Laws.{operations_done_are_those_of_the_history}
+use Rattle.k_laws.proofs.Histories.{run_append}
+use Rattle.k_laws.proofs.BoundsLaws.{operations_done_are_those_of_the_history}
 use Rattle.k_reports.specs.Begun.{IsBegun}
 use Rattle.k_state.specs.Machines.{Machine}
 use Rattle.k_state.specs.Setups.{setup_of}

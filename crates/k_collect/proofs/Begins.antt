@@ -21,13 +21,13 @@ use Rattle.k_types.specs.Sound.{IsSound}
 use Rattle.k_types.specs.State.{State, is_scanned, scan_of}
 use Rattle.k_types.specs.Steps.{IsPossible, in_range, state_after}
 use Rattle.k_types.specs.Trace.{Trace}
-use Rattle.k_base.proofs.Lists.{some_one}
-use Rattle.k_base.proofs.NameTests.{heap_eq_refl}
-use Rattle.k_changes.specs.BookChanges.{registers_in}
-use Rattle.k_changes.specs.CellChanges.{with_scan}
-use Rattle.k_changes.specs.Roots.{roots_in}
-use Rattle.k_changes.proofs.RootsTold.{roots_told}
-use Rattle.k_frame.specs.PartUpdates.{done_in, process_with_done, with_done}
+use Rattle.k_types.proofs.Lists.{some_one}
+use Rattle.k_types.proofs.NameTests.{heap_eq_refl}
+use Rattle.k_laws.specs.BookChanges.{registers_in}
+use Rattle.k_laws.specs.CellChanges.{with_scan}
+use Rattle.k_laws.specs.Roots.{roots_in}
+use Rattle.k_laws.proofs.RootsTold.{roots_told}
+use Rattle.k_laws.specs.PartUpdates.{done_in, process_with_done, with_done}
 use Rattle.k_agree.specs.Agreement.{BookShows, Shows}
 use Rattle.k_agree.specs.Committing.{CanCommit, IsCommitted, NotedCell, journal_after, note_after}
 use Rattle.k_agree.specs.GivingAway.{with_one_done}
@@ -38,14 +38,14 @@ use Rattle.k_agree.proofs.Commits.{committed}
 use Rattle.k_agree.proofs.Touched.{as_listed}
 use Rattle.k_commit.specs.k_book.Books.{BookRecord}
 use Rattle.k_commit.specs.k_heap.Heaps.{HeapRecord}
-use Rattle.k_lawful.proofs.Laws.{possible_events_are_lawful}
-use Rattle.k_commit.specs.k_moves.Moves.{noted}
-use Rattle.k_commit.specs.k_moves.Shown.{ShowsIdle}
+use Rattle.k_laws.proofs.LawfulLaws.{possible_events_are_lawful}
+use Rattle.k_commit.specs.k_agree.Moves.{noted}
+use Rattle.k_commit.specs.k_agree.Shown.{ShowsIdle}
 use Rattle.k_commit.proofs.Idle.{book_follows, unscanned}
-use Rattle.k_squares.specs.Answers.{answer_in, faults_in, reply_in}
-use Rattle.k_squares.specs.BookAfter.{book_after, book_operated}
-use Rattle.k_squares.specs.CellAfter.{cell_after, cells_operated}
-use Rattle.k_squares.proofs.Laws.{replies_are_told, steps_show_in_the_parts-book, steps_show_in_the_parts-cells}
+use Rattle.k_laws.specs.Answers.{answer_in, faults_in, reply_in}
+use Rattle.k_laws.specs.BookAfter.{book_after, book_operated}
+use Rattle.k_laws.specs.CellAfter.{cell_after, cells_operated}
+use Rattle.k_laws.proofs.SquaresLaws.{replies_are_told, steps_show_in_the_parts-book, steps_show_in_the_parts-cells}
 use Rattle.k_commit.specs.Met.{Before, FitsTheBook, HaveMet}
 use Rattle.k_commit.specs.Standing.{BookStands, HeapStands}
 use Rattle.k_commit.proofs.Fitting.{done_small}
@@ -57,7 +57,7 @@ use Rattle.k_collect.specs.Collecting.{CanBeginHeap}
 use Rattle.k_commit.specs.k_cell.Changes.{HasGrayed}
 use Rattle.k_collect.specs.Graying.{is_root_by}
 use Rattle.k_collect.proofs.Roots.{gray_at_roots, registers_all}
-use Rattle.k_frame.proofs.Untouched.{one_counted}
+use Rattle.k_laws.proofs.Untouched.{one_counted}
 
 -- what is shown once one more operation is done
 abbrev shown_done : ShownPart → ShownPart

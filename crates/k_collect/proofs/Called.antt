@@ -7,8 +7,8 @@ use Rattle.k_types.specs.declared.names.Pid.{Pid}
 use Rattle.k_types.specs.declared.op.Op.TheVariants.{Collect, KCollect}
 use Rattle.k_types.specs.Bounds.{register_count}
 use Rattle.k_types.specs.Trace.{Trace}
-use Rattle.k_changes.specs.BookChanges.{registers_in}
-use Rattle.k_frame.specs.PartUpdates.{done_in}
+use Rattle.k_laws.specs.BookChanges.{registers_in}
+use Rattle.k_laws.specs.PartUpdates.{done_in}
 use Rattle.k_agree.specs.Committing.{journal_after, note_after}
 use Rattle.k_agree.specs.GivingAway.{with_one_done}
 use Rattle.k_agree.specs.Marking.{begun}

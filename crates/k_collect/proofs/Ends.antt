@@ -17,9 +17,9 @@ use Rattle.k_types.specs.Sound.{IsSound}
 use Rattle.k_types.specs.State.{Sharing, State, has_share, scan_of}
 use Rattle.k_types.specs.Steps.{IsPossible, has_sharer, state_after}
 use Rattle.k_types.specs.Trace.{Trace, limit_of, process_count}
-use Rattle.k_base.proofs.Lists.{any_weaker}
-use Rattle.k_base.proofs.Maxima.{length_in}
-use Rattle.k_bounds.specs.Counts.{one_if}
+use Rattle.k_types.proofs.Lists.{any_weaker}
+use Rattle.k_types.proofs.Maxima.{length_in}
+use Rattle.k_laws.specs.Counts.{one_if}
 use Rattle.k_laws.proofs.SoundSteps.{legal_sound}
 use Rattle.k_tie.specs.Values.{NoteValue}
 use Rattle.k_agree.specs.Agreement.{BookShows, Shows}
@@ -34,11 +34,11 @@ use Rattle.k_agree.proofs.Touched.{as_listed}
 use Rattle.k_commit.specs.k_book.Books.{BookRecord}
 use Rattle.k_commit.specs.k_book.Calls.{ChangesEntries}
 use Rattle.k_commit.specs.k_cell.Holdings.{HoldingsValue}
-use Rattle.k_changes.specs.BookChanges.{registers_in}
+use Rattle.k_laws.specs.BookChanges.{registers_in}
 use Rattle.k_commit.specs.k_heap.Heaps.{HeapRecord}
-use Rattle.k_lawful.proofs.Laws.{possible_events_are_lawful}
-use Rattle.k_commit.specs.k_moves.Moves.{noted}
-use Rattle.k_squares.proofs.Laws.{what_is_let_go_is_counted-entries}
+use Rattle.k_laws.proofs.LawfulLaws.{possible_events_are_lawful}
+use Rattle.k_commit.specs.k_agree.Moves.{noted}
+use Rattle.k_laws.proofs.SquaresLaws.{what_is_let_go_is_counted-entries}
 use Rattle.k_commit.specs.Met.{FitsTheBook}
 use Rattle.k_commit.proofs.Fitting.{direct_low}
 use Rattle.k_collect.specs.Collecting.{CanEndHeap, CanEndKernel}
@@ -51,7 +51,7 @@ use Rattle.k_collect.proofs.Sizes.{credit_is_charged, freed_own}
 use Rattle.k_collect.proofs.Unshared.{same_bytes_lost}
 use Rattle.k_collect.proofs.Ways.{way_kept}
 use Rattle.k_types.specs.declared.names.LimitId.{LimitId}
-use Rattle.k_base.proofs.Owners.{absorbed_is}
+use Rattle.k_types.proofs.Owners.{absorbed_is}
 
 -- a cell that has met the journal and is marked, of whatever heap
 module _ (trace : Trace) (cell : Cell) (note : NoteValue) (v : CellValue) (b : BookRecord) (can : CanSweep trace cell note v b) where

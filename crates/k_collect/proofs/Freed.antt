@@ -15,9 +15,9 @@ use Rattle.k_types.specs.Steps.{IsLegalHistory, state_after}
 use Rattle.k_types.specs.Trace.{Trace}
 use Rattle.k_types.specs.TraceRules.{KeepsRules}
 use Rattle.k_types.specs.Updates.{close_scan, keep_exits, keep_objects, keep_shares}
-use Rattle.k_base.proofs.Lists.{length-kept}
-use Rattle.k_base.proofs.Objects.{has-kept}
-use Rattle.k_frame.proofs.Histories.{state_next}
+use Rattle.k_types.proofs.Lists.{length-kept}
+use Rattle.k_types.proofs.Objects.{has-kept}
+use Rattle.k_laws.proofs.Histories.{state_next}
 use Rattle.k_laws.proofs.Means.{reach_is}
 use Rattle.k_mark.specs.Listening.{AreTold, times}
 use Rattle.k_agree.specs.Agreement.{Shows}

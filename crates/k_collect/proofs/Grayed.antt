@@ -7,12 +7,12 @@ use Rattle.k_types.specs.Agree.{CellValue}
 use Rattle.k_types.specs.Names.{leads_to, name_among, name_eq}
 use Rattle.k_commit.specs.k_cell.Changes.{HasBegun, HasGrayed, HasRoot}
 use Rattle.k_commit.proofs.Grayed.{grays_none, grays_one, grays_same}
-use Rattle.k_changes.specs.BookChanges.{registers_in}
+use Rattle.k_laws.specs.BookChanges.{registers_in}
 use Rattle.k_entry.specs.Entries.{AreEntries, EntryValue, first_object, home_of, items_of, object_after, objects}
 use Rattle.k_collect.specs.Graying.{is_counted_at}
 use Rattle.k_collect.proofs.Walks.{IsOnWalk, distinct_walk, first_on_walk, next_on_walk, none_before, on_walk_counted, passed_before, passed_more, passed_next, walk_counts}
 use Rattle.k_types.specs.Counted.{Counted, counted}
-use Rattle.k_base.specs.Distinct.{AreDistinctNames}
+use Rattle.k_types.specs.Distinct.{AreDistinctNames}
 use Rattle.k_commit.proofs.Changed.{among_pushed}
 
 -- what the first registers hold

@@ -17,14 +17,14 @@ use Rattle.k_types.specs.Sound.{IsSound}
 use Rattle.k_types.specs.State.{State, is_scanned}
 use Rattle.k_types.specs.Steps.{IsPossible, in_range, is_orphan, no_orphan, state_after}
 use Rattle.k_types.specs.Trace.{Trace, process_count}
-use Rattle.k_base.proofs.NameTests.{heap_eq_refl}
-use Rattle.k_changes.specs.BookChanges.{when_closed}
-use Rattle.k_changes.specs.CellChanges.{with_scan}
-use Rattle.k_changes.specs.Roots.{roots_in}
+use Rattle.k_types.proofs.NameTests.{heap_eq_refl}
+use Rattle.k_laws.specs.BookChanges.{when_closed}
+use Rattle.k_laws.specs.CellChanges.{with_scan}
+use Rattle.k_laws.specs.Roots.{roots_in}
 use Rattle.k_laws.proofs.SoundSteps.{legal_sound}
 use Rattle.k_shares.specs.Sharers.{lowest_orphan}
 use Rattle.k_commit.proofs.Telling.{tells}
-use Rattle.k_frame.specs.PartUpdates.{done_in, with_done}
+use Rattle.k_laws.specs.PartUpdates.{done_in, with_done}
 use Rattle.k_agree.specs.Agreement.{Shows}
 use Rattle.k_agree.specs.Committing.{CanCommit, IsCommitted, NotedCell, journal_after, note_after}
 use Rattle.k_agree.specs.GivingAway.{with_one_done}
@@ -35,14 +35,14 @@ use Rattle.k_agree.proofs.Touched.{as_listed}
 use Rattle.k_commit.specs.k_book.Books.{BookRecord}
 use Rattle.k_commit.specs.k_cell.Holdings.{HoldingsValue}
 use Rattle.k_commit.specs.k_heap.Heaps.{HeapRecord}
-use Rattle.k_lawful.proofs.Laws.{possible_events_are_lawful}
-use Rattle.k_commit.specs.k_moves.Moves.{noted}
-use Rattle.k_commit.specs.k_moves.Shown.{ShowsIdle}
+use Rattle.k_laws.proofs.LawfulLaws.{possible_events_are_lawful}
+use Rattle.k_commit.specs.k_agree.Moves.{noted}
+use Rattle.k_commit.specs.k_agree.Shown.{ShowsIdle}
 use Rattle.k_commit.proofs.Idle.{book_follows, not_open, part_shown, shows_part, unscanned}
-use Rattle.k_squares.specs.Answers.{answer_in, faults_in, reply_in}
-use Rattle.k_squares.specs.BookAfter.{book_after, book_operated}
-use Rattle.k_squares.specs.CellAfter.{cell_after, cells_operated}
-use Rattle.k_squares.proofs.Laws.{replies_are_told, steps_show_in_the_parts-book, steps_show_in_the_parts-cells}
+use Rattle.k_laws.specs.Answers.{answer_in, faults_in, reply_in}
+use Rattle.k_laws.specs.BookAfter.{book_after, book_operated}
+use Rattle.k_laws.specs.CellAfter.{cell_after, cells_operated}
+use Rattle.k_laws.proofs.SquaresLaws.{replies_are_told, steps_show_in_the_parts-book, steps_show_in_the_parts-cells}
 use Rattle.k_commit.specs.Met.{Before, FitsTheBook, HaveMet}
 use Rattle.k_commit.specs.Standing.{BookStands}
 use Rattle.k_commit.proofs.Fitting.{done_small}
@@ -54,7 +54,7 @@ use Rattle.k_collect.specs.Collecting.{CanBeginKernel, CanClose}
 use Rattle.k_commit.specs.k_cell.Changes.{HasGrayed}
 use Rattle.k_collect.specs.Graying.{is_root_by}
 use Rattle.k_collect.proofs.Begins.{gray_right, marks_right}
-use Rattle.k_frame.proofs.Untouched.{one_counted}
+use Rattle.k_laws.proofs.Untouched.{one_counted}
 
 -- no element of which none is found passes the test
 pub none_found : {A : Type 0} (p : A → Bool) (xs : List A) → find p xs ≡ None → list_all (λ x. not (p x)) xs ≡ true

@@ -9,10 +9,10 @@ use Rattle.k_types.specs.Names.{name_among, name_eq, heap_eq}
 use Rattle.k_types.specs.Sound.{AreDistinctExits}
 use Rattle.k_types.specs.State.{ExitItem, has_exit}
 use Rattle.k_types.specs.Totals.{total}
-use Rattle.k_base.specs.Distinct.{AreDistinctNames}
-use Rattle.k_base.proofs.Sums.{ones}
-use Rattle.k_base.proofs.Tests.{same_test}
-use Rattle.k_bounds.proofs.Distinct.{targets_sum}
+use Rattle.k_types.specs.Distinct.{AreDistinctNames}
+use Rattle.k_types.proofs.Sums.{ones}
+use Rattle.k_types.proofs.Tests.{same_test}
+use Rattle.k_laws.proofs.Distinct.{targets_sum}
 use Rattle.k_agree.specs.Ending.{HasLeft, dropped, dropped_exits}
 use Rattle.k_agree.proofs.Credited.{kept_distinct}
 use Rattle.k_agree.proofs.Swept.{among_kept}

@@ -8,8 +8,8 @@ use Rattle.k_types.specs.Owners.{owner_of}
 use Rattle.k_types.specs.Sound.{IsSound}
 use Rattle.k_types.specs.State.{Object, State, has_exit, refers_in}
 use Rattle.k_types.specs.Trace.{Trace}
-use Rattle.k_base.proofs.NameTests.{heap_eq-true, heap_eq_sym}
-use Rattle.k_base.proofs.Objects.{refers_in-kept}
+use Rattle.k_types.proofs.NameTests.{heap_eq-true, heap_eq_sym}
+use Rattle.k_types.proofs.Objects.{refers_in-kept}
 use Rattle.k_tie.specs.Values.{NoteValue}
 use Rattle.k_agree.specs.Agreement.{Agrees, Shows}
 use Rattle.k_agree.proofs.AtTheEnd.{cell_sound}

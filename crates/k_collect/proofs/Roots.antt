@@ -14,13 +14,13 @@ use Rattle.k_types.specs.Owners.{objects_of, owner_of}
 use Rattle.k_types.specs.Sound.{IsSound}
 use Rattle.k_types.specs.State.{Object, State, has}
 use Rattle.k_types.specs.Trace.{Trace, process_count}
-use Rattle.k_base.proofs.Objects.{has-kept, names_have}
+use Rattle.k_types.proofs.Objects.{has-kept, names_have}
 use Rattle.k_agree.specs.Agreement.{BookShows, Shows}
 use Rattle.k_agree.specs.Marking.{begun, idle_part, roots_seen}
 use Rattle.k_agree.proofs.Openings.{home_at}
 use Rattle.k_commit.specs.k_book.Books.{BookRecord}
-use Rattle.k_changes.specs.BookChanges.{registers_in}
-use Rattle.k_changes.specs.Roots.{entered_in, held_by}
+use Rattle.k_laws.specs.BookChanges.{registers_in}
+use Rattle.k_laws.specs.Roots.{entered_in, held_by}
 use Rattle.k_entry.specs.Entries.{home_of}
 use Rattle.k_commit.specs.k_cell.Changes.{HasGrayed}
 use Rattle.k_collect.specs.Graying.{is_root_by}

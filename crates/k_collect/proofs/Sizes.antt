@@ -13,16 +13,16 @@ use Rattle.k_types.specs.Totals.{total}
 use Rattle.k_types.specs.Trace.{Trace, limit_of, process_count}
 use Rattle.k_types.specs.TraceRules.{KeepsRules}
 use Rattle.k_types.specs.declared.event.Event.{Event}
-use Rattle.k_base.proofs.Lists.{length-kept}
-use Rattle.k_base.proofs.Sums.{total_at_most}
-use Rattle.k_bounds.specs.Counts.{has_allocated}
-use Rattle.k_bounds.proofs.Counting.{count_low, total_fewer}
-use Rattle.k_bounds.proofs.Laws.{objects_are_at_most_the_allocations}
-use Rattle.k_known.proofs.Fitting.{objects_bounded}
+use Rattle.k_types.proofs.Lists.{length-kept}
+use Rattle.k_types.proofs.Sums.{total_at_most}
+use Rattle.k_laws.specs.Counts.{has_allocated}
+use Rattle.k_laws.proofs.Counting.{count_low, total_fewer}
+use Rattle.k_laws.proofs.BoundsLaws.{objects_are_at_most_the_allocations}
+use Rattle.k_laws.proofs.Fitting.{objects_bounded}
 use Rattle.k_tie.specs.Values.{NoteValue}
 use Rattle.k_agree.specs.Agreement.{Agrees, BookShows, Shows}
 use Rattle.k_agree.specs.Ending.{bytes_unshared, freed_bytes, freed_objects, keeps_way}
-use Rattle.k_squares.proofs.Laws.{what_is_let_go_is_counted-charges}
+use Rattle.k_laws.proofs.SquaresLaws.{what_is_let_go_is_counted-charges}
 use Rattle.k_collect.specs.Collecting.{HasFewObjects}
 
 -- each event makes at most one object, beside the directory

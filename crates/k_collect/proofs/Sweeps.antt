@@ -11,7 +11,7 @@ use Rattle.k_types.specs.Names.{name_among}
 use Rattle.k_types.specs.Numbers.{numbers_below}
 use Rattle.k_types.specs.State.{has_share}
 use Rattle.k_types.specs.Trace.{Trace, limit_of}
-use Rattle.k_base.specs.Distinct.{AreDistinctNames}
+use Rattle.k_types.specs.Distinct.{AreDistinctNames}
 use Rattle.k_mark.specs.declared.sweeping.Swept.{Swept}
 use Rattle.k_tie.specs.Values.{NoteValue}
 use Rattle.k_agree.specs.Committing.{journal_after, note_after}

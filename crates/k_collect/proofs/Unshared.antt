@@ -4,13 +4,13 @@ use Rattle.std.proofs.lemmas.Bool.{and_parts, false≢true, lt-ltb, ltb-true}
 use Rattle.k_types.specs.Agree.{BookValue, CellValue}
 use Rattle.k_types.specs.Numbers.{numbers_below}
 use Rattle.k_types.specs.State.{has_share}
-use Rattle.k_base.proofs.Lists.{numbers_length}
-use Rattle.k_base.proofs.Sums.{ones, sum_same, total_at_most}
-use Rattle.k_base.proofs.Tests.{same_test}
+use Rattle.k_types.proofs.Lists.{numbers_length}
+use Rattle.k_types.proofs.Sums.{ones, sum_same, total_at_most}
+use Rattle.k_types.proofs.Tests.{same_test}
 use Rattle.k_commit.specs.k_book.Books.{BookRecord}
 use Rattle.k_shares.specs.Sharers.{LosesShare}
 use Rattle.k_collect.specs.Unsharing.{CanUnshare, HasUnshared, bytes_lost, shares_lost, ways_left}
-use Rattle.k_base.proofs.Totals.{total_more, first_total}
+use Rattle.k_types.proofs.Totals.{total_more, first_total}
 
 pub record IsUnsharing (stays : ℕ → Bool) (p : ℕ) (old now : BookRecord) (s shares bytes : ℕ) : Type 0 where
   pub rest : now ≡ record old { value = record old.value { shares = now.value.shares } }

@@ -6,8 +6,8 @@ use Rattle.k_types.specs.declared.names.Heap.{Heap}
 use Rattle.k_types.specs.declared.names.Name.{Name}
 use Rattle.k_types.specs.Counted.{Counted, counted}
 use Rattle.k_types.specs.Names.{heap_eq, name_among, name_eq}
-use Rattle.k_base.specs.Distinct.{AreDistinctNames}
-use Rattle.k_base.proofs.NameTests.{heap_eq-true, name_eq-true, name_eq_refl}
+use Rattle.k_types.specs.Distinct.{AreDistinctNames}
+use Rattle.k_types.proofs.NameTests.{heap_eq-true, name_eq-true, name_eq_refl}
 use Rattle.k_entry.specs.Entries.{AreEntries, EntryValue, first_object, home_of, items_of, object_after, objects}
 use Rattle.k_entry.proofs.WholeWalks.{walk_distinct, walk_has}
 use Rattle.k_collect.specs.Graying.{is_counted_at}

@@ -11,12 +11,12 @@ use Rattle.k_types.specs.Owners.{is_absorbed, owner_of, owner_of_process, owner_
 use Rattle.k_types.specs.Replies.{is_populating}
 use Rattle.k_types.specs.State.{State}
 use Rattle.k_types.specs.Trace.{Trace, process_count}
-use Rattle.k_base.proofs.Lists.{any_same}
-use Rattle.k_base.proofs.NameTests.{heap_eq_refl, name_eq_refl}
-use Rattle.k_base.proofs.Tests.{same_test}
-use Rattle.k_frame.proofs.OwnerOf.{owner_shared}
+use Rattle.k_types.proofs.Lists.{any_same}
+use Rattle.k_types.proofs.NameTests.{heap_eq_refl, name_eq_refl}
+use Rattle.k_types.proofs.Tests.{same_test}
+use Rattle.k_laws.proofs.OwnerOf.{owner_shared}
 use Rattle.k_agree.specs.Ending.{keeps_way, swept}
-use Rattle.k_changes.specs.BookChanges.{leads_into, registers_in}
+use Rattle.k_laws.specs.BookChanges.{leads_into, registers_in}
 use Rattle.k_collect.specs.Unsharing.{has_way_by, lies_in}
 use Rattle.k_agree.proofs.Shared.{among_any}
 

@@ -12,7 +12,7 @@ use Rattle.k_types.specs.Names.{name_among}
 use Rattle.k_types.specs.Owners.{owner_of}
 use Rattle.k_types.specs.Steps.{state_after}
 use Rattle.k_types.specs.Trace.{Trace}
-use Rattle.k_base.specs.Distinct.{AreDistinctNames}
+use Rattle.k_types.specs.Distinct.{AreDistinctNames}
 use Rattle.k_tie.specs.Values.{NoteValue}
 use Rattle.k_agree.specs.Ending.{HasLeft, HasSettledWith, dropped, dropped_exits, dropped_shares, freed_bytes, freed_objects, swept}
 use Rattle.k_commit.specs.k_book.Books.{BookRecord}

@@ -14,13 +14,13 @@ use Rattle.k_types.specs.Names.{name_among}
 use Rattle.k_types.specs.Reach.{roots_of}
 use Rattle.k_types.specs.Steps.{IsPossible, state_after}
 use Rattle.k_types.specs.Trace.{Trace}
-use Rattle.k_frame.specs.PartUpdates.{done_in}
+use Rattle.k_laws.specs.PartUpdates.{done_in}
 use Rattle.k_agree.specs.Agreement.{Agrees, BookAgrees}
 use Rattle.k_agree.specs.Meeting.{HasMet}
 use Rattle.k_commit.specs.k_book.Books.{BookRecord}
 use Rattle.k_commit.specs.k_cell.Holdings.{HoldingsValue}
 use Rattle.k_commit.specs.k_heap.Heaps.{HeapRecord}
-use Rattle.k_lawful.specs.Lawful.{IsLawful}
+use Rattle.k_laws.specs.Lawful.{IsLawful}
 
 -- the event is possible after the journal, lawful, and its newest; the book is as it was but for its journal and its value, and agrees
 pub record HasAppended (trace : Trace) (old_book book : BookRecord) (event : Event) : Type 0 where

@@ -7,7 +7,7 @@ use Rattle.k_types.specs.Counted.{counted}
 use Rattle.k_types.specs.Names.{heap_eq}
 use Rattle.k_agree.specs.Marking.{idle_part}
 use Rattle.k_commit.specs.k_book.Books.{BookRecord, book_entries, book_pins}
-use Rattle.k_changes.specs.Roots.{held_by}
+use Rattle.k_laws.specs.Roots.{held_by}
 use Rattle.k_entry.specs.Entries.{EntryValue, home_of}
 
 -- the table counts the object, and the heap owns its segment

@@ -10,7 +10,7 @@ use Rattle.k_types.specs.Replies.{is_populating}
 use Rattle.k_types.specs.State.{has_share}
 use Rattle.k_types.specs.Totals.{total}
 use Rattle.k_commit.specs.k_book.Books.{BookRecord}
-use Rattle.k_changes.specs.BookChanges.{registers_in}
+use Rattle.k_laws.specs.BookChanges.{registers_in}
 
 -- the reference is into that segment
 abbrev pub lies_in : ℕ → Option Name → Bool

@@ -5,7 +5,7 @@ ghost use Rattle.k_types.specs.Bounds.{register_count};
 ghost use Rattle.k_types.specs.Names.{leads_to};
 ghost use Rattle.k_types.specs.declared.names.Heap.TheVariants.{Kernel, User};
 ghost use Rattle.k_commit.specs.k_book.Books.{book_entries, book_pins};
-ghost use Rattle.k_changes.specs.BookChanges.{registers_in};
+ghost use Rattle.k_laws.specs.BookChanges.{registers_in};
 ghost use Rattle.k_agree.specs.Marking.{begun};
 ghost use Rattle.k_commit.specs.k_cell.Changes.{HasBegun, HasGrayed};
 ghost use Rattle.k_collect.specs.Graying.{is_counted_at, is_root_by};

@@ -1,7 +1,7 @@
 //! The exit items that a collection drops, which the book leaves one by one.
 ghost use Rattle.std.specs.Prelude.{◌≡◌};
 ghost use Rattle.k_types.specs.declared.names.CellPhase.TheVariants.{Marked};
-ghost use Rattle.k_base.specs.Distinct.{AreDistinctNames};
+ghost use Rattle.k_types.specs.Distinct.{AreDistinctNames};
 ghost use Rattle.k_agree.specs.Ending.{HasLeft, dropped, dropped_exits};
 ghost use Rattle.k_commit.specs.k_book.Calls.{ChangesEntries};
 ghost use Rattle.k_collect.specs.Leaving.{HasItsEntries, HasLeftUnmarked};

@@ -5,7 +5,7 @@ ghost use Rattle.k_types.specs.Bounds.{register_count};
 ghost use Rattle.k_types.specs.Numbers.{numbers_below};
 ghost use Rattle.k_types.specs.Replies.{is_populating};
 ghost use Rattle.k_types.specs.State.{has_share};
-ghost use Rattle.k_changes.specs.BookChanges.{registers_in};
+ghost use Rattle.k_laws.specs.BookChanges.{registers_in};
 ghost use Rattle.k_collect.specs.Unsharing.{CanUnshare, HasUnshared, bytes_lost, lies_in, shares_lost, ways_left};
 
 use k_commit::{Book, HeapCell};

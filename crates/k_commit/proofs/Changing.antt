@@ -6,9 +6,9 @@ use Rattle.k_types.specs.declared.op.Op.{Op}
 use Rattle.k_types.specs.Agree.{BookValue, CellValue, book_shown_by}
 use Rattle.k_space.specs.Objects.{BodyValue}
 use Rattle.k_book.specs.Books.{BookRecord}
-use Rattle.k_book.specs.k_changes.BookChanges.{owner_in}
+use Rattle.k_book.specs.k_laws.BookChanges.{owner_in}
 use Rattle.k_heap.specs.Heaps.{HeapRecord}
-use Rattle.k_moves.specs.Moves.{KeepsOwners}
+use Rattle.k_agree.specs.Moves.{KeepsOwners}
 use Rattle.k_commit.specs.Changed.{ChangesValues, HasSetRegister, bodies_after}
 use Rattle.k_commit.specs.Met.{Before, HaveMet}
 

@@ -7,13 +7,13 @@ use Rattle.k_types.specs.Replies.{limit_fault}
 use Rattle.k_types.specs.State.{State}
 use Rattle.k_types.specs.Steps.{state_after}
 use Rattle.k_types.specs.Trace.{Trace, limit_of}
-use Rattle.k_base.proofs.Maxima.{length_in}
+use Rattle.k_types.proofs.Maxima.{length_in}
 use Rattle.k_limits.specs.Limits.{full_at}
 use Rattle.k_book.specs.Books.{BookRecord, book_limits}
 use Rattle.k_book.proofs.Telling.{tells_limits}
-use Rattle.k_book.specs.k_changes.Told.{full_limit_in}
+use Rattle.k_book.specs.k_laws.Told.{full_limit_in}
 use Rattle.k_book.proofs.ToldBy.{limit_told}
-use Rattle.k_moves.specs.Answers.{size_fault_in}
+use Rattle.k_agree.specs.Answers.{size_fault_in}
 use Rattle.k_commit.specs.Charging.{CanCharge, HasCharged, IsFullFor}
 
 module _ (trace : Trace) (b : BookRecord) (p : ℕ) (can : CanCharge trace b p) where

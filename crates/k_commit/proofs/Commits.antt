@@ -14,12 +14,12 @@ use Rattle.k_types.specs.State.{State}
 use Rattle.k_types.specs.Trace.{Trace}
 use Rattle.k_tie.specs.Rule.{total_of}
 use Rattle.k_tie.specs.Values.{NoteValue}
-use Rattle.k_frame.proofs.Histories.{done_append, state_next}
-use Rattle.k_frame.specs.PartUpdates.{done_in, process_with_done}
-use Rattle.k_known.specs.Counts.{is_operation}
-use Rattle.k_known.proofs.Counting.{count_low}
-use Rattle.k_known.proofs.Dones.{dones_at_most}
-use Rattle.k_known.proofs.BoundsLaws.{operations_done_are_those_of_the_history}
+use Rattle.k_laws.proofs.Histories.{done_append, state_next}
+use Rattle.k_laws.specs.PartUpdates.{done_in, process_with_done}
+use Rattle.k_laws.specs.Counts.{is_operation}
+use Rattle.k_laws.proofs.Counting.{count_low}
+use Rattle.k_laws.proofs.Dones.{dones_at_most}
+use Rattle.k_laws.proofs.BoundsLaws.{operations_done_are_those_of_the_history}
 use Rattle.k_book.specs.k_agree.Agreement.{Agrees, BookAgrees, Shows}
 use Rattle.k_book.specs.k_agree.Committing.{CanCommit, IsCommitted, NotedCell, journal_after, note_after, state_to_come}
 use Rattle.k_book.specs.k_agree.GivingAway.{with_one_done}
@@ -27,9 +27,9 @@ use Rattle.k_book.specs.k_agree.Meeting.{Fits, HasMet}
 use Rattle.k_book.proofs.Commits.{committed}
 use Rattle.k_book.specs.Books.{BookRecord}
 use Rattle.k_heap.specs.Heaps.{HeapRecord}
-use Rattle.k_lawful.proofs.Laws.{possible_events_are_lawful}
-use Rattle.k_moves.specs.Moves.{CommitsAlone, CommitsBoth, MayAct, noted}
-use Rattle.k_moves.proofs.Committed.{commit_alone, commit_both}
+use Rattle.k_laws.proofs.LawfulLaws.{possible_events_are_lawful}
+use Rattle.k_agree.specs.Moves.{CommitsAlone, CommitsBoth, MayAct, noted}
+use Rattle.k_agree.proofs.Committed.{commit_alone, commit_both}
 use Rattle.k_commit.specs.Beside.{HasSteppedWith}
 use Rattle.k_commit.specs.Changed.{HasChanged, HasChangedWith, MayCommit, bodies_after}
 use Rattle.k_commit.specs.Met.{Before, BeforeWith, HaveMet}

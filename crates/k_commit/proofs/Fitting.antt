@@ -17,19 +17,19 @@ use Rattle.k_types.specs.Steps.{IsLegalHistory, state_after}
 use Rattle.k_types.specs.Totals.{total}
 use Rattle.k_types.specs.Trace.{Trace, limit_of, process_count}
 use Rattle.k_types.specs.TraceRules.{AreLimits}
-use Rattle.k_base.proofs.Charges.{direct_within}
-use Rattle.k_base.proofs.Lists.{get_mapped, numbers_length}
-use Rattle.k_base.proofs.Sums.{ones, total_at_most}
-use Rattle.k_frame.proofs.Sizes.{history_sized}
-use Rattle.k_frame.specs.PartUpdates.{done_in}
-use Rattle.k_known.specs.Counts.{has_allocated, is_operation}
-use Rattle.k_known.proofs.Counting.{count_low, total_fewer}
-use Rattle.k_known.proofs.Distinct.{pins_few}
-use Rattle.k_known.proofs.Dones.{dones_at_most}
-use Rattle.k_known.proofs.BoundsLaws.{objects_are_at_most_the_allocations}
-use Rattle.k_known.proofs.Fitting.{objects_bounded}
-use Rattle.k_known.proofs.Maxima.{max_small}
-use Rattle.k_moves.specs.Meaning.{heaps_of}
+use Rattle.k_types.proofs.Charges.{direct_within}
+use Rattle.k_types.proofs.Lists.{get_mapped, numbers_length}
+use Rattle.k_types.proofs.Sums.{ones, total_at_most}
+use Rattle.k_laws.proofs.Sizes.{history_sized}
+use Rattle.k_laws.specs.PartUpdates.{done_in}
+use Rattle.k_laws.specs.Counts.{has_allocated, is_operation}
+use Rattle.k_laws.proofs.Counting.{count_low, total_fewer}
+use Rattle.k_laws.proofs.Distinct.{pins_few}
+use Rattle.k_laws.proofs.Dones.{dones_at_most}
+use Rattle.k_laws.proofs.BoundsLaws.{objects_are_at_most_the_allocations}
+use Rattle.k_laws.proofs.Fitting.{objects_bounded}
+use Rattle.k_laws.proofs.KnownMaxima.{max_small}
+use Rattle.k_agree.specs.Meaning.{heaps_of}
 use Rattle.k_book.specs.k_agree.Agreement.{BookShows, Shows}
 use Rattle.k_book.proofs.LawsLaws.{entered_objects_are_counted-entries}
 use Rattle.k_book.proofs.SoundSteps.{legal_sound}

@@ -7,7 +7,7 @@ pub mod Commits
 pub mod Charges
 pub mod Tails
 pub mod Resizing
-pub use Rattle.k_moves.proofs.Idle
+pub use Rattle.k_agree.proofs.Idle
 pub use Rattle.k_book.proofs.Telling
 pub use Rattle.k_book.proofs.AtTheEnd
 pub use Rattle.k_book.proofs.Meetings as AgreeMeetings
@@ -15,8 +15,8 @@ pub use Rattle.k_book.proofs.Openings
 pub use Rattle.k_book.proofs.WithinRooms
 pub use Rattle.k_book.proofs.OnPart
 pub use Rattle.k_heap.proofs.Grayed
-pub use Rattle.k_moves.proofs.Beside
-pub use Rattle.k_moves.proofs.Changed
-pub use Rattle.k_moves.proofs.Given
-pub use Rattle.k_moves.proofs.Killing
-pub use Rattle.k_moves.proofs.Stored
+pub use Rattle.k_agree.proofs.Beside
+pub use Rattle.k_agree.proofs.Changed
+pub use Rattle.k_agree.proofs.Given
+pub use Rattle.k_agree.proofs.Killing
+pub use Rattle.k_agree.proofs.Stored

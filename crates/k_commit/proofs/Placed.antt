@@ -15,19 +15,19 @@ use Rattle.k_types.specs.Sound.{IsSound}
 use Rattle.k_types.specs.State.{Content, Holds, Object, Refers, State, content_leads_to, fields_of, object_at, refers_in, register}
 use Rattle.k_types.specs.Steps.{state_after}
 use Rattle.k_types.specs.Trace.{Trace, segment_count}
-use Rattle.k_base.proofs.Lists.{numbers_length}
-use Rattle.k_base.proofs.NameTests.{name_eq_refl}
-use Rattle.k_base.proofs.Objects.{refers_found, refers_in-kept}
+use Rattle.k_types.proofs.Lists.{numbers_length}
+use Rattle.k_types.proofs.NameTests.{name_eq_refl}
+use Rattle.k_types.proofs.Objects.{refers_found, refers_in-kept}
 use Rattle.k_book.proofs.SoundSteps.{legal_sound}
 use Rattle.k_book.proofs.SoundStore.{register_holds}
 use Rattle.k_book.specs.k_agree.Agreement.{Shows}
 use Rattle.k_book.proofs.Openings.{home_at}
 use Rattle.k_heap.specs.Looks.{field_among}
-use Rattle.k_book.specs.k_changes.BookChanges.{owner_in}
+use Rattle.k_book.specs.k_laws.BookChanges.{owner_in}
 use Rattle.k_book.proofs.Laws.{the_book_tells_the_owners}
 use Rattle.k_book.proofs.ToldBy.{register_told}
 use Rattle.k_book.specs.k_entry.Entries.{home_of}
-use Rattle.k_frame.specs.PartUpdates.{held_in}
+use Rattle.k_laws.specs.PartUpdates.{held_in}
 use Rattle.k_commit.specs.Met.{Before, HaveMet}
 
 leads_from : (contents : List Content) (i : ℕ) (y : Name) → get_or contents i (Holds 0) ≡ Refers (Some y) → list_any (content_leads_to y) contents ≡ true

@@ -17,16 +17,16 @@ use Rattle.k_types.specs.Sound.{IsSound}
 use Rattle.k_types.specs.State.{State}
 use Rattle.k_types.specs.Steps.{state_after}
 use Rattle.k_types.specs.Trace.{Trace, limit_of, row_of}
-use Rattle.k_base.proofs.Ancestors.{ancestors_in}
-use Rattle.k_base.proofs.Maxima.{length_in, parent_in}
+use Rattle.k_types.proofs.Ancestors.{ancestors_in}
+use Rattle.k_types.proofs.Maxima.{length_in, parent_in}
 use Rattle.k_book.proofs.SoundSteps.{legal_sound}
-use Rattle.k_book.specs.k_changes.Told.{full_for_in}
+use Rattle.k_book.specs.k_laws.Told.{full_for_in}
 use Rattle.k_book.proofs.ToldBy.{full_for_told}
 use Rattle.k_limits.specs.declared.error.ResizeRefusal.{ResizeRefusal}
 use Rattle.k_limits.specs.declared.error.ResizeRefusal.TheVariants.{InUse as UsedUp, Full}
 use Rattle.k_limits.specs.Limits.{use_at}
 use Rattle.k_limits.specs.Resizes.{ExplainsResize, full_for_at}
-use Rattle.k_moves.specs.Answers.{answer_in, faults_in, reply_in}
+use Rattle.k_agree.specs.Answers.{answer_in, faults_in, reply_in}
 use Rattle.k_book.specs.Books.{BookRecord, book_limits}
 use Rattle.k_book.specs.Machine.{IsBookOf, TellsTheLimits}
 use Rattle.k_book.proofs.Telling.{tells_limits}

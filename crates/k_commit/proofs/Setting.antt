@@ -13,19 +13,19 @@ use Rattle.k_types.specs.Owners.{owner_of, user}
 use Rattle.k_types.specs.State.{State}
 use Rattle.k_types.specs.Steps.{state_after}
 use Rattle.k_types.specs.Trace.{process_count, segment_count}
-use Rattle.k_base.proofs.Lists.{numbers_length}
-use Rattle.k_base.proofs.NameTests.{heap_eq_refl, heap_eq-true}
-use Rattle.k_base.proofs.Tests.{same_test}
+use Rattle.k_types.proofs.Lists.{numbers_length}
+use Rattle.k_types.proofs.NameTests.{heap_eq_refl, heap_eq-true}
+use Rattle.k_types.proofs.Tests.{same_test}
 use Rattle.k_book.proofs.Means.{is_own_if, own_is}
 use Rattle.k_book.specs.k_entry.Entries.{AreEntries}
 use Rattle.k_book.specs.Books.{BookRecord, book_pins}
 use Rattle.k_book.specs.Calls.{ChangesPins}
 use Rattle.k_book.proofs.OnPart.{moved_on}
-use Rattle.k_book.specs.k_changes.BookChanges.{owner_in, with_pin_moved}
+use Rattle.k_book.specs.k_laws.BookChanges.{owner_in, with_pin_moved}
 use Rattle.k_book.proofs.Laws.{the_book_tells_the_owners}
-use Rattle.k_frame.specs.PartUpdates.{held_in}
+use Rattle.k_laws.specs.PartUpdates.{held_in}
 use Rattle.k_heap.specs.Heaps.{HeapRecord, has_ended_in}
-use Rattle.k_moves.proofs.Laws.{what_is_let_go_is_counted-pins}
+use Rattle.k_agree.proofs.SquaresLaws.{what_is_let_go_is_counted-pins}
 use Rattle.k_commit.specs.Changed.{CanSetRegister}
 use Rattle.k_commit.specs.Met.{Before, HaveMet}
 use Rattle.k_commit.specs.Owning.{IsOwnBySegment}

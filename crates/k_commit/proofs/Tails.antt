@@ -5,7 +5,7 @@ use Rattle.k_types.specs.declared.event.Event.{Event}
 use Rattle.k_types.specs.State.{opening}
 use Rattle.k_types.specs.Steps.{state_after}
 use Rattle.k_types.specs.Trace.{Trace}
-use Rattle.k_frame.proofs.Histories.{legal_rest}
+use Rattle.k_laws.proofs.Histories.{legal_rest}
 use Rattle.k_tie.specs.Values.{JournalValue, NoteValue}
 use Rattle.k_book.specs.k_agree.Committing.{journal_after, note_after}
 use Rattle.k_book.specs.k_agree.Meeting.{met_note}

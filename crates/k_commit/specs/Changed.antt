@@ -10,11 +10,11 @@ use Rattle.k_types.specs.Steps.{in_range, waits_for_orphans}
 use Rattle.k_types.specs.Trace.{segment_count}
 use Rattle.k_space.specs.Objects.{BodyValue}
 use Rattle.k_book.specs.Books.{BookRecord}
-use Rattle.k_book.specs.k_changes.BookChanges.{owner_in, with_pin_moved}
-use Rattle.k_frame.specs.PartUpdates.{held_in, with_done}
+use Rattle.k_book.specs.k_laws.BookChanges.{owner_in, with_pin_moved}
+use Rattle.k_laws.specs.PartUpdates.{held_in, with_done}
 use Rattle.k_heap.specs.Heaps.{HeapRecord, with_register_in}
-use Rattle.k_moves.specs.Moves.{GivesAlone, GivesBoth, KeepsOwners}
-use Rattle.k_moves.specs.Shown.{idle_part}
+use Rattle.k_agree.specs.Moves.{GivesAlone, GivesBoth, KeepsOwners}
+use Rattle.k_agree.specs.Shown.{idle_part}
 use Rattle.k_commit.specs.Met.{Before, BeforeWith, HaveMet, HaveMetWith}
 use Rattle.k_commit.specs.Others.{OtherValue, with_value}
 use Rattle.k_commit.specs.Rooms.{HasEventRoom}

@@ -5,8 +5,8 @@ use Rattle.k_types.specs.declared.names.LimitId.{LimitId}
 use Rattle.k_types.specs.Agree.{book_shown_by}
 use Rattle.k_types.specs.Trace.{Trace, limit_of, process_count}
 use Rattle.k_book.specs.Books.{BookRecord}
-use Rattle.k_book.specs.k_changes.BookChanges.{with_charge}
-use Rattle.k_moves.specs.Answers.{size_fault_in}
+use Rattle.k_book.specs.k_laws.BookChanges.{with_charge}
+use Rattle.k_agree.specs.Answers.{size_fault_in}
 use Rattle.k_commit.specs.Standing.{BookStands}
 
 -- the book stands, and the process is one of the trace's

@@ -7,7 +7,7 @@ use Rattle.k_types.specs.Cells.{Cell}
 use Rattle.k_tie.specs.Values.{NoteValue}
 use Rattle.k_book.specs.k_agree.Committing.{NotedCell}
 use Rattle.k_heap.specs.Holdings.{HoldingsValue}
-use Rattle.k_moves.specs.Moves.{noted}
+use Rattle.k_agree.specs.Moves.{noted}
 use Rattle.k_shared.specs.SharedHeaps.{SharedRecord}
 
 -- whose heap's cell it is, the segment with which that heap begins, and what the cell holds

@@ -12,11 +12,11 @@ use Rattle.k_types.specs.Cells.{Cell, CellPart}
 use Rattle.k_types.specs.Trace.{Trace, process_count}
 use Rattle.k_book.specs.Books.{BookRecord}
 use Rattle.k_book.specs.Machine.{IsBookOf}
-use Rattle.k_book.specs.k_changes.BookChanges.{with_max}
+use Rattle.k_book.specs.k_laws.BookChanges.{with_max}
 use Rattle.k_limits.specs.declared.error.ResizeRefusal.{ResizeRefusal}
 use Rattle.k_limits.specs.declared.error.ResizeRefusal.TheVariants.{InUse as UsedUp, Full}
-use Rattle.k_moves.specs.Answers.{reply_in}
-use Rattle.k_moves.specs.CellAfter.{unless_refused}
+use Rattle.k_agree.specs.Answers.{reply_in}
+use Rattle.k_agree.specs.CellAfter.{unless_refused}
 use Rattle.k_commit.specs.Standing.{BookStands}
 
 -- the book is of the trace, of which the process and the limit are

@@ -11,9 +11,9 @@ use Rattle.k_types.specs.Trace.{Trace}
 use Rattle.k_book.specs.k_agree.Agreement.{Agrees, BookAgrees}
 use Rattle.k_book.specs.k_agree.Meeting.{HasMet}
 use Rattle.k_book.specs.Books.{BookRecord}
-use Rattle.k_frame.specs.PartUpdates.{done_in}
+use Rattle.k_laws.specs.PartUpdates.{done_in}
 use Rattle.k_heap.specs.Heaps.{HeapRecord}
-use Rattle.k_lawful.specs.Lawful.{IsLawful}
+use Rattle.k_laws.specs.Lawful.{IsLawful}
 use Rattle.k_commit.specs.Changed.{bodies_after}
 
 -- the event is the operation's, possible after the journal, lawful, and its newest; the cell is the same one with its rooms, has

@@ -2,7 +2,7 @@
 ghost use Rattle.std.specs.Prelude.{◌+◌, ◌-◌, ◌<◌, ◌^◌, ℕ, length, slice_index_or};
 ghost use Rattle.k_book.specs.Books.{BookRecord, book_pins};
 ghost use Rattle.k_book.specs.k_entry.Entries.{AreEntries};
-ghost use Rattle.k_frame.specs.PartUpdates.{done_in};
+ghost use Rattle.k_laws.specs.PartUpdates.{done_in};
 ghost use Rattle.k_heap.specs.Heaps.{HeapRecord};
 ghost use Rattle.k_heap.specs.Holdings.{HoldingsValue};
 ghost use Rattle.k_shared.specs.SharedHeaps.{SharedRecord};

@@ -2,7 +2,7 @@
 ghost use Rattle.std.specs.Prelude.{◌≡◌, ◌+◌, ◌-◌, ◌<◌, ◌≤◌, ◌^◌, ℕ, IsFalse, None, Some, length, option_map};
 ghost use Rattle.k_book.specs.Books.{book_pins};
 ghost use Rattle.k_book.specs.Calls.{ChangesPins};
-ghost use Rattle.k_book.specs.k_changes.BookChanges.{with_pin_moved};
+ghost use Rattle.k_book.specs.k_laws.BookChanges.{with_pin_moved};
 ghost use Rattle.k_book.specs.k_entry.Entries.{AreEntries};
 ghost use Rattle.k_types.specs.Agree.{book_shown_by};
 ghost use Rattle.k_types.specs.Counted.{counted};

@@ -11,7 +11,7 @@ use Rattle.k_types.specs.FileOrder.{events_of, heap_begun, with_end}
 use Rattle.k_types.specs.State.{State, opening}
 use Rattle.k_types.specs.Steps.{IsLegalHistory, IsRun, run, state_after}
 use Rattle.k_types.specs.Trace.{Trace}
-use Rattle.k_frame.proofs.Histories.{legal_rest}
+use Rattle.k_laws.proofs.Histories.{legal_rest}
 use Rattle.k_operate.specs.Adding.{AddsOperation, AreEnds, awaited}
 use Rattle.k_complete.proofs.Closings.{end_is}
 

@@ -16,13 +16,13 @@ use Rattle.k_types.specs.State.{State, opening}
 use Rattle.k_types.specs.Steps.{IsPossible, is_orphan, run, state_after}
 use Rattle.k_types.specs.Effects.{step}
 use Rattle.k_types.specs.Trace.{Trace, process_count, segment_count}
-use Rattle.k_frame.proofs.Histories.{run_append, state_next}
+use Rattle.k_laws.proofs.Histories.{run_append, state_next}
 use Rattle.k_agree.specs.Meeting.{Fits}
 use Rattle.k_agree.specs.Rooms.{AreFirst, event_room, exit_room}
 use Rattle.k_agree.specs.Settled.{all_ended_in, no_orphan_in}
 use Rattle.k_agree.proofs.Meetings.{meeting}
 use Rattle.k_agree.proofs.WithinRooms.{room_after}
-use Rattle.k_moves.proofs.Idle.{not_open}
+use Rattle.k_agree.proofs.Idle.{not_open}
 use Rattle.k_book.specs.Books.{BookRecord}
 use Rattle.k_book.proofs.Telling.{tells}
 use Rattle.k_cell.specs.Holdings.{HoldingsValue}
@@ -34,7 +34,7 @@ use Rattle.k_operate.specs.k_collect.Collecting.{CanClose, CanEndKernel}
 use Rattle.k_operate.specs.k_collect.Ended.{HasEndedKernel}
 use Rattle.k_operate.proofs.KernelBegins.{none_orphaned, none_found}
 use Rattle.k_operate.specs.k_process.Keeping.{BookKeeps, CanGive, KernelKeeps}
-use Rattle.k_operate.specs.k_process.Standing.{RestStands}
+use Rattle.k_operate.specs.k_process.BetweenSteps.{RestStands}
 use Rattle.k_operate.specs.k_process.Worlds.{WorldValue}
 use Rattle.k_operate.specs.Absorbing.{HasAbsorbedOrphans}
 use Rattle.k_operate.specs.Collecting.{KernelCollects}

@@ -16,10 +16,10 @@ use Rattle.k_types.specs.State.{Sharing, State}
 use Rattle.k_types.specs.Steps.{IsLegalHistory, IsPossible, has_sharer, is_live, is_orphan, run, state_after}
 use Rattle.k_types.specs.Trace.{Trace}
 use Rattle.k_types.specs.Updates.{close, close_scan, keep_exits, keep_objects, keep_shares, open_scan, set_phase}
-use Rattle.k_base.proofs.Numbered.{all_at_below}
-use Rattle.k_bounds.specs.Counts.{closing_count, one_if}
-use Rattle.k_bounds.proofs.AbsorbedCounts.{closings}
-use Rattle.k_order.proofs.FileOrders.{all_kept}
+use Rattle.k_types.proofs.Numbered.{all_at_below}
+use Rattle.k_laws.specs.Counts.{closing_count, one_if}
+use Rattle.k_laws.proofs.AbsorbedCounts.{closings}
+use Rattle.k_laws.proofs.FileOrders.{all_kept}
 
 -- phases and shares are the same
 record HasSameSharing (st su : State) : Type 0 where

@@ -19,7 +19,7 @@ use Rattle.k_complete.specs.Ended.{AllThrough}
 use Rattle.k_operate.specs.k_process.Heaps.{HeapsValue}
 use Rattle.k_operate.specs.k_process.Over.{AllEnded, AllMet, BookEnds}
 use Rattle.k_complete.specs.Meetings.{AreSameButNotes, CellsAndBook, CellsMet, HeapsAndBook, HeapsMet, ProcessesAndBook, ProcessesMet}
-use Rattle.k_operate.specs.k_process.Standing.{HasDone, IsThroughWith, ProcessStands}
+use Rattle.k_operate.specs.k_process.BetweenSteps.{HasDone, IsThroughWith, ProcessStands}
 use Rattle.k_operate.specs.k_process.Worlds.{WorldValue}
 use Rattle.k_operate.proofs.Written.{get_set_cases}
 use Rattle.k_operate.proofs.Kept.{met_heap, met_kernel, met_shared, process_set, shared_set}

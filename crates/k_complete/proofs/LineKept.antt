@@ -14,7 +14,7 @@ use Rattle.k_types.specs.Names.{among}
 use Rattle.k_types.specs.State.{State}
 use Rattle.k_types.specs.Steps.{state_after}
 use Rattle.k_types.specs.Trace.{Trace, operations_of}
-use Rattle.k_frame.specs.PartUpdates.{done_in}
+use Rattle.k_laws.specs.PartUpdates.{done_in}
 use Rattle.k_agree.specs.Agreement.{Shows}
 use Rattle.k_book.specs.Books.{BookRecord}
 use Rattle.k_heap.specs.Heaps.{HeapRecord, has_ended_in}
@@ -22,7 +22,7 @@ use Rattle.k_operate.specs.k_collect.Met.{CanMeet, HeapHasMet}
 use Rattle.k_operate.specs.k_process.Keeping.{operations_left}
 use Rattle.k_operate.specs.k_process.declared.process.Process.{Process}
 use Rattle.k_operate.specs.k_process.Heaps.{HeapsValue}
-use Rattle.k_operate.specs.k_process.Standing.{AllStand, ArePublished, ComesNext, IsNextOf, ProcessStands, ProcessesStand, RestStands}
+use Rattle.k_operate.specs.k_process.BetweenSteps.{AllStand, ArePublished, ComesNext, IsNextOf, ProcessStands, ProcessesStand, RestStands}
 use Rattle.k_operate.specs.k_process.Worlds.{WorldValue}
 use Rattle.k_operate.proofs.Kept.{heap_can_meet, process_set}
 use Rattle.k_operate.proofs.Written.{get_set_cases}
@@ -33,7 +33,7 @@ use Rattle.k_complete.specs.Replaying.{CanDoLine, HasDoneLine}
 use Rattle.k_complete.proofs.Added.{adds_events_of}
 use Rattle.k_complete.proofs.EndKept.{met_stands}
 use Rattle.k_complete.proofs.PlacedKept.{got_own, read_there}
-use Rattle.k_base.proofs.Lists.{slice_get-set_other, same_value}
+use Rattle.k_types.proofs.Lists.{slice_get-set_other, same_value}
 
 -- the first of what is left, and nothing where nothing is left
 got_first : {A : Type 0} (n : ℕ) (xs : List A) (x : A) (rest : List A) → drop n xs ≡ x ∷ rest → slice_get xs n ≡ Some x

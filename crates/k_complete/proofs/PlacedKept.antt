@@ -15,7 +15,7 @@ use Rattle.k_operate.specs.k_process.Keeping.{operations_left}
 use Rattle.k_operate.proofs.CanDo.{next_in_range}
 use Rattle.k_operate.specs.k_process.declared.process.Process.{Process}
 use Rattle.k_operate.specs.k_process.Heaps.{HeapsValue}
-use Rattle.k_operate.specs.k_process.Standing.{AllStand, IsNextOf, IsThroughWith, ProcessStands}
+use Rattle.k_operate.specs.k_process.BetweenSteps.{AllStand, IsNextOf, IsThroughWith, ProcessStands}
 use Rattle.k_operate.specs.k_process.Worlds.{WorldValue}
 use Rattle.k_operate.proofs.Kept.{process_set}
 use Rattle.k_operate.proofs.Written.{get_set_cases}
@@ -26,7 +26,7 @@ use Rattle.k_complete.specs.Ended.{AreKeptBut, HasCompleted, IsKept}
 use Rattle.k_complete.specs.Placed.{CanDoAt, CanKillAt, HasDoneAt, HasKilledAt}
 use Rattle.k_complete.proofs.EndKept.{fewer_left}
 use Rattle.k_operate.proofs.Grown.{prefix_by, prefix_trans}
-use Rattle.k_base.proofs.Lists.{slice_get-set_other, same_value}
+use Rattle.k_types.proofs.Lists.{slice_get-set_other, same_value}
 
 -- what is written is found in its place, and any other place holds what it held
 pub got_own : {A : Type 0} (xs : List A) (k : ℕ) (x y : A) → slice_get xs k ≡ Some y → slice_get (set xs k x) k ≡ Some x

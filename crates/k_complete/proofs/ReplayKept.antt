@@ -10,18 +10,18 @@ use Rattle.k_types.specs.State.{State, opening}
 use Rattle.k_types.specs.Steps.{run, state_after}
 use Rattle.k_types.specs.Trace.{Trace, operations_of, process_count}
 use Rattle.k_types.specs.TraceRules.{KeepsRules}
-use Rattle.k_base.proofs.Numbered.{drop_all, process_known}
-use Rattle.k_bounds.proofs.Dones.{done_count}
-use Rattle.k_frame.specs.PartUpdates.{done_in}
-use Rattle.k_frame.proofs.Histories.{run_append}
-use Rattle.k_order.proofs.FileOrders.{file_order_complete, order_end}
+use Rattle.k_types.proofs.Numbered.{drop_all, process_known}
+use Rattle.k_laws.proofs.Dones.{done_count}
+use Rattle.k_laws.specs.PartUpdates.{done_in}
+use Rattle.k_laws.proofs.Histories.{run_append}
+use Rattle.k_laws.proofs.FileOrders.{file_order_complete, order_end}
 use Rattle.k_agree.specs.Agreement.{Shows}
 use Rattle.k_agree.specs.Settled.{all_ended_in, no_orphan_in}
 use Rattle.k_book.specs.Books.{BookRecord}
 use Rattle.k_heap.specs.Heaps.{HeapRecord, has_ended_in}
 use Rattle.k_operate.specs.k_process.Keeping.{HeapKeeps}
 use Rattle.k_operate.specs.k_process.Heaps.{HeapsValue}
-use Rattle.k_operate.specs.k_process.Standing.{AllStand, ArePublished, IsThroughWith}
+use Rattle.k_operate.specs.k_process.BetweenSteps.{AllStand, ArePublished, IsThroughWith}
 use Rattle.k_operate.specs.k_process.Worlds.{WorldValue}
 use Rattle.k_complete.specs.Closing.{HasClosedAll}
 use Rattle.k_complete.specs.Meetings.{CellsMet}

@@ -11,7 +11,7 @@ use Rattle.k_cell.specs.Holdings.{HoldingsValue}
 use Rattle.k_shared.specs.SharedHeaps.{SharedRecord}
 use Rattle.k_shares.specs.Sharers.{lowest_orphan}
 use Rattle.k_operate.specs.k_process.Keeping.{BookKeeps, KernelKeeps}
-use Rattle.k_operate.specs.k_process.Standing.{HeapsStand}
+use Rattle.k_operate.specs.k_process.BetweenSteps.{HeapsStand}
 use Rattle.k_operate.specs.k_process.Worlds.{WorldValue}
 use Rattle.k_operate.specs.k_process.Over.{BookEnds}
 

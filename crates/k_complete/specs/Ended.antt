@@ -4,7 +4,7 @@ use Rattle.k_types.specs.Trace.{Trace}
 use Rattle.k_heap.specs.Heaps.{HeapRecord}
 use Rattle.k_operate.specs.k_process.declared.process.Process.{Process}
 use Rattle.k_operate.specs.k_process.Heaps.{HeapsValue}
-use Rattle.k_operate.specs.k_process.Standing.{AllStand, IsThroughWith}
+use Rattle.k_operate.specs.k_process.BetweenSteps.{AllStand, IsThroughWith}
 use Rattle.k_operate.specs.k_process.Worlds.{WorldValue}
 use Rattle.k_operate.specs.Collecting.{HasSameLeft}
 

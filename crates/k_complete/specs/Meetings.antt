@@ -6,7 +6,7 @@ use Rattle.k_operate.specs.k_process.Keeping.{KernelKeeps}
 use Rattle.k_operate.specs.k_process.declared.process.Process.{Process}
 use Rattle.k_operate.specs.k_process.Heaps.{HeapsValue}
 use Rattle.k_operate.specs.k_process.Over.{BookEnds}
-use Rattle.k_operate.specs.k_process.Standing.{HeapsStand, ProcessesStand}
+use Rattle.k_operate.specs.k_process.BetweenSteps.{HeapsStand, ProcessesStand}
 use Rattle.k_operate.specs.k_process.Worlds.{WorldValue}
 
 -- all processes and the book stand

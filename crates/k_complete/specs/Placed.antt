@@ -6,7 +6,7 @@ use Rattle.k_book.specs.Books.{BookRecord}
 use Rattle.k_cell.specs.Holdings.{HoldingsValue}
 use Rattle.k_operate.specs.k_process.declared.process.Process.{Process}
 use Rattle.k_operate.specs.k_process.Heaps.{HeapsValue}
-use Rattle.k_operate.specs.k_process.Standing.{AllStand, ArePublished, ComesNext, HasDone}
+use Rattle.k_operate.specs.k_process.BetweenSteps.{AllStand, ArePublished, ComesNext, HasDone}
 use Rattle.k_operate.specs.k_process.Worlds.{WorldValue}
 use Rattle.k_operate.specs.Adding.{AddsOperation, known_to}
 use Rattle.k_operate.specs.Killing.{CanKillNow, HasDoneKill, known_to_both}

@@ -4,7 +4,7 @@ use Rattle.k_types.specs.declared.names.Pid.{Pid}
 use Rattle.k_types.specs.FileOrder.{events_of, file_order, next_operation}
 use Rattle.k_types.specs.Steps.{state_after}
 use Rattle.k_operate.specs.k_process.Heaps.{HeapsValue}
-use Rattle.k_operate.specs.k_process.Standing.{AllStand, ArePublished}
+use Rattle.k_operate.specs.k_process.BetweenSteps.{AllStand, ArePublished}
 use Rattle.k_operate.specs.k_process.Worlds.{WorldValue}
 use Rattle.k_operate.specs.k_process.Over.{AllMet}
 

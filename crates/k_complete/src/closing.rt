@@ -3,7 +3,7 @@ ghost use Rattle.std.specs.Prelude.{◌≡◌};
 ghost use Rattle.k_agree.specs.Settled.{all_ended_in};
 ghost use Rattle.k_book.specs.Machine.{IsBookOf};
 ghost use Rattle.k_complete.specs.Closing.{CanCollectLast, HasClosedAll, HasCollectedLast};
-ghost use Rattle.k_operate.specs.k_process.Standing.{RestStands};
+ghost use Rattle.k_operate.specs.k_process.BetweenSteps.{RestStands};
 ghost use Rattle.k_operate.specs.k_process.Worlds.{WorldValue};
 ghost use Rattle.k_types.specs.Trace.{Trace};
 

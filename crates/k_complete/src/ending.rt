@@ -2,7 +2,7 @@
 ghost use Rattle.k_complete.specs.Ended.{AllThrough, CanComplete, HasCompleted};
 ghost use Rattle.k_operate.specs.k_process.Heaps.{value_of};
 ghost use Rattle.k_operate.specs.k_process.Over.{AllMet};
-ghost use Rattle.k_operate.specs.k_process.Standing.{AllStand};
+ghost use Rattle.k_operate.specs.k_process.BetweenSteps.{AllStand};
 ghost use Rattle.k_complete.specs.Meetings.{CellsAndBook, CellsMet, HeapsAndBook, HeapsMet, ProcessesAndBook, ProcessesMet};
 ghost use Rattle.k_operate.specs.k_process.Worlds.{WorldValue};
 ghost use Rattle.k_types.specs.Complete.{IsPrefixOf};

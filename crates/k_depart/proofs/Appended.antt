@@ -13,12 +13,12 @@ use Rattle.k_types.specs.State.{State}
 use Rattle.k_types.specs.Steps.{state_after}
 use Rattle.k_types.specs.Trace.{Trace, process_count, segment_count}
 use Rattle.k_types.specs.Updates.{count_done}
-use Rattle.k_frame.specs.PartUpdates.{done_in, process_with_done}
+use Rattle.k_laws.specs.PartUpdates.{done_in, process_with_done}
 use Rattle.k_tie.specs.Values.{NoteValue}
-use Rattle.k_frame.proofs.Histories.{state_next}
+use Rattle.k_laws.proofs.Histories.{state_next}
 use Rattle.k_laws.specs.Termination.{CreditsTheCharge}
 use Rattle.k_laws.proofs.Laws.{termination_credits_the_whole_charge-exit, termination_leaves_the_rest-exit, termination_leaves_the_rest-exits, termination_leaves_the_rest-rest}
-use Rattle.k_lawful.proofs.Laws.{possible_events_are_lawful}
+use Rattle.k_laws.proofs.LawfulLaws.{possible_events_are_lawful}
 use Rattle.k_agree.specs.Agreement.{BookShows, Shows}
 use Rattle.k_agree.specs.Committing.{CanCommit, IsCommitted, NotedCell, journal_after, note_after, state_to_come}
 use Rattle.k_agree.specs.GivingAway.{with_one_done}
@@ -34,7 +34,7 @@ use Rattle.k_commit.specs.Others.{held_by, of_kernel, shared_by}
 use Rattle.k_commit.proofs.Fitting.{done_small}
 use Rattle.k_commit.proofs.Meetings.{other_has_met}
 use Rattle.k_commit.specs.k_heap.Heaps.{HeapRecord, has_ended_in, own_segment}
-use Rattle.k_commit.specs.k_moves.Moves.{noted}
+use Rattle.k_commit.specs.k_agree.Moves.{noted}
 use Rattle.k_commit.specs.k_shared.SharedHeaps.{SharedRecord}
 use Rattle.k_depart.specs.Absorbing.{CanAbsorb, HasAbsorbedHeap, HasTakenOver, HaveMetToAbsorb}
 use Rattle.k_depart.specs.Ending.{state_with}

@@ -6,7 +6,7 @@ use Rattle.k_commit.specs.k_book.Books.{BookRecord}
 use Rattle.k_commit.specs.k_book.Calls.{ChangesShares}
 use Rattle.k_shares.specs.Sharers.{LosesShare}
 use Rattle.k_depart.specs.Charges.{bytes_if_shared, bytes_shared}
-use Rattle.k_base.proofs.Totals.{total_more, first_total}
+use Rattle.k_types.proofs.Totals.{total_more, first_total}
 
 -- the shares of the process in the first heaps are dropped, and their bytes are added up
 pub record IsDropping (p : ℕ) (before b : BookRecord) (s bytes : ℕ) : Type 0 where

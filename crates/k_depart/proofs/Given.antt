@@ -3,11 +3,11 @@ use Rattle.std.proofs.Common.{◌≡◌, ℕ, ◌+◌, ◌<◌, ◌^◌, refl, s
 use Rattle.std.proofs.lemmas.Bool.{cases_eq}
 use Rattle.k_types.specs.Owners.{object_bytes}
 use Rattle.k_types.specs.Totals.{total}
-use Rattle.k_base.proofs.Lists.{some_inside}
+use Rattle.k_types.proofs.Lists.{some_inside}
 use Rattle.k_space.specs.Segments.{SegmentValue, made, segment_bytes, segment_objects}
-use Rattle.k_areas.proofs.Joined.{alone_area, joined_area, none_area}
+use Rattle.k_mark.proofs.Joined.{alone_area, joined_area, none_area}
 use Rattle.k_commit.specs.k_cell.Holdings.{HasGivenSegment, HoldingsValue, with_segment_added}
-use Rattle.k_changes.specs.CellChanges.{either_of, with_objects}
+use Rattle.k_laws.specs.CellChanges.{either_of, with_objects}
 use Rattle.k_depart.specs.Segments.{CanGive, HasGiven}
 
 -- the objects of a segment stand in order, so that they are what is put into their places among none

@@ -14,7 +14,7 @@ use Rattle.k_types.specs.Reach.{is_shared_heap}
 use Rattle.k_types.specs.State.{Sharing, has_share}
 use Rattle.k_types.specs.Totals.{total}
 use Rattle.k_types.specs.Trace.{Trace, limit_of}
-use Rattle.k_base.proofs.NameTests.{heap_eq_sym}
+use Rattle.k_types.proofs.NameTests.{heap_eq_sym}
 use Rattle.k_agree.specs.Agreement.{BookShows, Shows}
 use Rattle.k_agree.specs.Ending.{HasLeft}
 use Rattle.k_agree.specs.GivingAway.{HasTakenIn, ended_cell}
@@ -23,13 +23,13 @@ use Rattle.k_agree.proofs.DrainedOnTheBook.{end_there}
 use Rattle.k_agree.proofs.GivenAway.{exit_cell, exit_kernel}
 use Rattle.k_agree.proofs.GivenOnTheBook.{end_on_the_book}
 use Rattle.k_agree.proofs.Swept.{among_kept}
-use Rattle.k_bounds.specs.Counts.{one_if}
+use Rattle.k_laws.specs.Counts.{one_if}
 use Rattle.k_commit.specs.k_book.Books.{BookRecord}
 use Rattle.k_commit.specs.k_book.Calls.{ChangesEntries, ChangesPins}
 use Rattle.k_commit.specs.k_cell.Holdings.{HoldingsValue}
-use Rattle.k_changes.specs.BookChanges.{registers_in}
-use Rattle.k_changes.specs.CellChanges.{either_of, ended_process, with_objects}
-use Rattle.k_frame.specs.PartUpdates.{done_in}
+use Rattle.k_laws.specs.BookChanges.{registers_in}
+use Rattle.k_laws.specs.CellChanges.{either_of, ended_process, with_objects}
+use Rattle.k_laws.specs.PartUpdates.{done_in}
 use Rattle.k_commit.specs.k_heap.Heaps.{HeapRecord, has_ended_in, holdings_of, own_segment, with_process_ended}
 use Rattle.k_depart.specs.Charges.{HasCredited, bytes_shared, limit_in}
 use Rattle.k_depart.specs.Ending.{MarksEnded}

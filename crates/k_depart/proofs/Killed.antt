@@ -20,13 +20,13 @@ use Rattle.k_types.specs.State.{State, is_scanned}
 use Rattle.k_types.specs.Steps.{IsPossible, in_range, state_after}
 use Rattle.k_types.specs.Trace.{Trace, process_count}
 use Rattle.k_types.specs.Updates.{count_done}
-use Rattle.k_base.proofs.Ancestors.{above_another}
-use Rattle.k_frame.proofs.Histories.{state_next}
-use Rattle.k_frame.specs.PartUpdates.{done_in}
+use Rattle.k_types.proofs.Ancestors.{above_another}
+use Rattle.k_laws.proofs.Histories.{state_next}
+use Rattle.k_laws.specs.PartUpdates.{done_in}
 use Rattle.k_laws.specs.Termination.{CreditsTheCharge}
 use Rattle.k_laws.proofs.Laws.{termination_credits_the_whole_charge-kill, termination_leaves_the_rest-exits, termination_leaves_the_rest-kill, termination_leaves_the_rest-rest}
 use Rattle.k_laws.proofs.SoundSteps.{legal_sound}
-use Rattle.k_lawful.proofs.Laws.{possible_events_are_lawful}
+use Rattle.k_laws.proofs.LawfulLaws.{possible_events_are_lawful}
 use Rattle.k_agree.specs.Agreement.{BookShows, Shows}
 use Rattle.k_agree.specs.Committing.{CanCommit, IsCommitted, NotedCell, journal_after, note_after, state_to_come}
 use Rattle.k_agree.specs.GivingAway.{with_one_done}
@@ -37,21 +37,21 @@ use Rattle.k_agree.proofs.GivenOnTheBook.{counted_shows}
 use Rattle.k_agree.proofs.Touched.{as_listed}
 use Rattle.k_commit.specs.k_book.Books.{BookRecord}
 use Rattle.k_commit.specs.k_cell.Holdings.{HoldingsValue}
-use Rattle.k_squares.specs.Touches.{ends_other_in, other_cells_in}
+use Rattle.k_laws.specs.Touches.{ends_other_in, other_cells_in}
 use Rattle.k_commit.specs.Beside.{HasSteppedBeside}
-use Rattle.k_squares.proofs.CellSquares.{ends_told}
+use Rattle.k_laws.proofs.CellSquares.{ends_told}
 use Rattle.k_commit.specs.Met.{FitsTheBook, HaveMet, HeapHasMet, KernelHasMet}
 use Rattle.k_commit.specs.Others.{held_by}
 use Rattle.k_commit.proofs.Fitting.{done_small}
 use Rattle.k_commit.proofs.Meetings.{heap_has_met}
 use Rattle.k_commit.proofs.Setting.{process_known, process_lives}
 use Rattle.k_commit.specs.k_heap.Heaps.{HeapRecord, has_ended_in, own_segment}
-use Rattle.k_commit.specs.k_moves.Moves.{noted}
+use Rattle.k_commit.specs.k_agree.Moves.{noted}
 use Rattle.k_commit.proofs.Idle.{unscanned}
 use Rattle.k_depart.specs.Ending.{state_with}
 use Rattle.k_depart.specs.Exiting.{HasGivenUp, HasRoomToExit, HaveMetToExit}
 use Rattle.k_depart.specs.Killing.{CanKill, HasKilled, kill_of}
-use Rattle.k_frame.proofs.Untouched.{one_counted}
+use Rattle.k_laws.proofs.Untouched.{one_counted}
 
 -- a kill that touches two cells ends its target
 ends_if : (ends : Bool) (q : Pid) → cond ends (User q ∷ Kernel ∷ []) [] ≡ User q ∷ Kernel ∷ [] → ends ≡ true
@@ -105,7 +105,7 @@ module _ (trace : Trace) (c0 c t0 t : HeapRecord) (k0 k : HoldingsValue) (b0 b1 
   unfolding other_cells_in
   ends_by_book =
       ends_if (ends_other_in trace (book_shown_by b0.value) c0.pid.0 t0.pid.0) t0.pid
-      (subst (λ (o : Op). other_cells_in trace (book_shown_by b0.value) (Rattle.k_commit.specs.k_moves.Shown.idle_part c0.value) c0.pid.0 o ≡ User t0.pid ∷ Kernel ∷ []) can.asks can.reaches)
+      (subst (λ (o : Op). other_cells_in trace (book_shown_by b0.value) (Rattle.k_commit.specs.k_agree.Shown.idle_part c0.value) c0.pid.0 o ≡ User t0.pid ∷ Kernel ∷ []) can.asks can.reaches)
 
   pub ends : IsTrue (ends_other trace st c0.pid.0 t0.pid.0)
   ends =

@@ -6,7 +6,7 @@ use Rattle.k_types.specs.declared.names.Heap.TheVariants.{Kernel, Shared, User}
 use Rattle.k_types.specs.declared.names.LimitId.{LimitId}
 use Rattle.k_types.specs.declared.names.Name.{Name}
 use Rattle.k_types.specs.declared.setup.LimitRow.{LimitRow}
-use Rattle.k_base.proofs.Maxima.{length_in}
+use Rattle.k_types.proofs.Maxima.{length_in}
 use Rattle.k_types.specs.Cells.{BookPart, ProcessPart, ShownPart, book_part, cells_touched, other_cells, part}
 use Rattle.k_types.specs.Limits.{direct_by, limits_in, with_maxima}
 use Rattle.k_types.specs.Names.{among, heap_eq, name_among}
@@ -18,8 +18,8 @@ use Rattle.k_types.specs.State.{State, has_share, is_scanned}
 use Rattle.k_types.specs.Steps.{IsPossible, in_range, state_after}
 use Rattle.k_types.specs.Totals.{total}
 use Rattle.k_types.specs.Trace.{Trace, limit_of, process_count, segment_count}
-use Rattle.k_base.proofs.Lists.{none_is}
-use Rattle.k_base.proofs.NameTests.{heap_eq_sym}
+use Rattle.k_types.proofs.Lists.{none_is}
+use Rattle.k_types.proofs.NameTests.{heap_eq_sym}
 use Rattle.k_laws.specs.Changes.{MayExit}
 use Rattle.k_laws.proofs.SoundSteps.{legal_sound}
 use Rattle.k_agree.specs.Agreement.{BookShows, Shows}
@@ -28,11 +28,11 @@ use Rattle.k_agree.specs.GivingOnTheBook.{charged}
 use Rattle.k_agree.proofs.HeldOnTheBook.{charge_there, left_there, pins_there}
 use Rattle.k_agree.proofs.Openings.{home_at}
 use Rattle.k_agree.proofs.Swept.{among_kept}
-use Rattle.k_bounds.specs.Counts.{one_if}
+use Rattle.k_laws.specs.Counts.{one_if}
 use Rattle.k_commit.specs.k_book.Books.{BookRecord}
 use Rattle.k_commit.proofs.Fitting.{direct_low}
 use Rattle.k_commit.specs.k_cell.Holdings.{HoldingsValue}
-use Rattle.k_changes.specs.BookChanges.{registers_in}
+use Rattle.k_laws.specs.BookChanges.{registers_in}
 use Rattle.k_commit.specs.Met.{Before}
 use Rattle.k_commit.proofs.Setting.{process_known, process_lives}
 use Rattle.k_commit.specs.k_heap.Heaps.{HeapRecord, holdings_of, own_segment}

@@ -8,9 +8,9 @@ use Rattle.k_types.specs.declared.names.Name.{Name}
 use Rattle.k_types.specs.Agree.{CellValue}
 use Rattle.k_types.specs.Counted.{counted}
 use Rattle.k_types.specs.Names.{name_among, name_eq}
-use Rattle.k_base.proofs.Lists.{any_weaker}
-use Rattle.k_base.proofs.NameTests.{name_eq-true}
-use Rattle.k_bounds.specs.Counts.{one_if}
+use Rattle.k_types.proofs.Lists.{any_weaker}
+use Rattle.k_types.proofs.NameTests.{name_eq-true}
+use Rattle.k_laws.specs.Counts.{one_if}
 use Rattle.k_commit.specs.k_cell.Changes.{HasDroppedExit}
 use Rattle.k_agree.specs.Ending.{HasLeft}
 use Rattle.k_agree.proofs.Swept.{among_kept}

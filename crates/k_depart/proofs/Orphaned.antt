@@ -28,7 +28,7 @@ use Rattle.k_depart.specs.Exits.{AreEntered, into_segment}
 use Rattle.k_depart.specs.Segments.{CanGive}
 use Rattle.k_depart.proofs.Told.{cell_bytes, home_count, led_by_segment, other_made, owned_made, shared_numbered}
 use Rattle.k_depart.proofs.Weighed.{objects_weigh}
-use Rattle.k_base.proofs.Shares.{sharers_same}
+use Rattle.k_types.proofs.Shares.{sharers_same}
 
 live_stands : (phase : Phase) → is_live phase ≡ true → is_absorbed phase ≡ false
 live_stands Unmade t = refl

@@ -20,11 +20,11 @@ use Rattle.k_agree.specs.GivingAway.{HasTakenIn, absorbed_cell}
 use Rattle.k_agree.specs.GivingOnTheBook.{HasAbsorbed}
 use Rattle.k_agree.proofs.GivenInJournal.{absorbed_cell_shows, absorbed_kernel_shows}
 use Rattle.k_agree.proofs.GivenOnTheBook.{absorption_in_journal}
-use Rattle.k_bounds.specs.Counts.{one_if}
+use Rattle.k_laws.specs.Counts.{one_if}
 use Rattle.k_commit.specs.k_book.Books.{BookRecord}
 use Rattle.k_commit.specs.k_book.Calls.{ChangesEntries}
 use Rattle.k_commit.specs.k_cell.Holdings.{HoldingsValue}
-use Rattle.k_changes.specs.CellChanges.{either_of, with_objects}
+use Rattle.k_laws.specs.CellChanges.{either_of, with_objects}
 use Rattle.k_commit.specs.k_shared.SharedHeaps.{SharedRecord, holdings_of, with_phase}
 use Rattle.k_depart.specs.Absorbing.{HasTakenOver, HaveMetToAbsorb}
 use Rattle.k_depart.specs.Ending.{MarksAbsorbed, state_with}

@@ -15,11 +15,11 @@ use Rattle.k_types.specs.Owners.{is_absorbed, object_bytes, objects_of, owner_of
 use Rattle.k_types.specs.State.{Object, State, has_exit, scan_of}
 use Rattle.k_types.specs.Totals.{total}
 use Rattle.k_types.specs.Trace.{Trace, process_count, segment_count}
-use Rattle.k_base.proofs.Lists.{numbers_length}
-use Rattle.k_base.proofs.NameTests.{heap_eq-same, heap_eq-true}
-use Rattle.k_base.proofs.Sums.{sum-filter, total_at_most}
-use Rattle.k_base.proofs.Tests.{same_test}
-use Rattle.k_frame.proofs.OwnerOf.{owner_shared}
+use Rattle.k_types.proofs.Lists.{numbers_length}
+use Rattle.k_types.proofs.NameTests.{heap_eq-same, heap_eq-true}
+use Rattle.k_types.proofs.Sums.{sum-filter, total_at_most}
+use Rattle.k_types.proofs.Tests.{same_test}
+use Rattle.k_laws.proofs.OwnerOf.{owner_shared}
 use Rattle.k_laws.proofs.Means.{is_own_if, own_is}
 use Rattle.k_agree.specs.Agreement.{BookShows, Shows}
 use Rattle.k_agree.specs.GivingOnTheBook.{leading_into}

@@ -5,8 +5,8 @@ use Rattle.k_types.specs.Cells.{ProcessPart, pins_of}
 use Rattle.k_types.specs.Counted.{counted}
 use Rattle.k_types.specs.Names.{leads_to}
 use Rattle.k_types.specs.Totals.{total}
-use Rattle.k_changes.specs.BookChanges.{registers_in}
-use Rattle.k_frame.specs.PartUpdates.{held_in}
+use Rattle.k_laws.specs.BookChanges.{registers_in}
+use Rattle.k_laws.specs.PartUpdates.{held_in}
 use Rattle.k_commit.specs.k_book.Books.{BookRecord}
 use Rattle.k_commit.specs.k_book.Calls.{ChangesPins}
 use Rattle.k_depart.specs.Registers.{ArePinned, HasLetGo}

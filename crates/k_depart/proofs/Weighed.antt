@@ -6,10 +6,10 @@ use Rattle.k_types.specs.Steps.{IsLegalHistory, state_after}
 use Rattle.k_types.specs.Totals.{total}
 use Rattle.k_types.specs.Trace.{Trace}
 use Rattle.k_types.specs.TraceRules.{KeepsRules}
-use Rattle.k_bounds.specs.Counts.{has_allocated}
-use Rattle.k_bounds.proofs.Counting.{count_low}
-use Rattle.k_bounds.proofs.Laws.{objects_are_at_most_the_allocations}
-use Rattle.k_known.proofs.Fitting.{objects_bounded}
+use Rattle.k_laws.specs.Counts.{has_allocated}
+use Rattle.k_laws.proofs.Counting.{count_low}
+use Rattle.k_laws.proofs.BoundsLaws.{objects_are_at_most_the_allocations}
+use Rattle.k_laws.proofs.Fitting.{objects_bounded}
 
 -- each event makes at most one object, of at most 144 bytes
 pub objects_weigh : (trace : Trace) (history : List Event) → KeepsRules trace → IsLegalHistory trace history → total object_bytes (state_after trace history).objects ≤ 144 * (1 + length history)

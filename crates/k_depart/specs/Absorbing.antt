@@ -14,7 +14,7 @@ use Rattle.k_commit.specs.k_cell.Holdings.{HoldingsValue}
 use Rattle.k_commit.specs.Met.{ShowsAfter}
 use Rattle.k_commit.specs.Rooms.{HasEventRoom}
 use Rattle.k_commit.specs.Standing.{BookStands, KernelStands, SharedStands}
-use Rattle.k_lawful.specs.Lawful.{IsLawful}
+use Rattle.k_laws.specs.Lawful.{IsLawful}
 use Rattle.k_commit.specs.k_shared.SharedHeaps.{SharedRecord}
 use Rattle.k_shares.specs.Sharers.{is_orphan_by}
 use Rattle.k_depart.specs.Ending.{state_with}

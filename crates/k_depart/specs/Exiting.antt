@@ -23,9 +23,9 @@ use Rattle.k_commit.specs.Met.{HaveMetWith}
 use Rattle.k_commit.specs.Others.{of_kernel}
 use Rattle.k_commit.specs.Rooms.{HasEventRoom}
 use Rattle.k_commit.specs.Standing.{BookStands, HeapStands, KernelStands}
-use Rattle.k_frame.specs.PartUpdates.{done_in}
+use Rattle.k_laws.specs.PartUpdates.{done_in}
 use Rattle.k_commit.specs.k_heap.Heaps.{HeapRecord, has_ended_in, own_segment}
-use Rattle.k_lawful.specs.Lawful.{IsLawful}
+use Rattle.k_laws.specs.Lawful.{IsLawful}
 
 -- the journal has room for one event more, and the kernel for the exit items of the process's heap beside its own
 pub record HasRoomToExit (cell : HeapRecord) (kernel : HoldingsValue) (book : BookRecord) : Type 0 where

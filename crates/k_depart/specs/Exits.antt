@@ -6,7 +6,7 @@ use Rattle.k_types.specs.Agree.{BookValue, CellValue}
 use Rattle.k_types.specs.Counted.{counted}
 use Rattle.k_types.specs.Names.{name_among}
 use Rattle.k_types.specs.Reach.{is_shared_heap}
-use Rattle.k_bounds.specs.Counts.{one_if}
+use Rattle.k_laws.specs.Counts.{one_if}
 use Rattle.k_entry.specs.Entries.{home_of}
 
 -- each of these objects is entered

@@ -15,11 +15,11 @@ use Rattle.k_commit.specs.k_cell.Holdings.{HoldingsValue}
 use Rattle.k_commit.specs.Beside.{Stands}
 use Rattle.k_commit.specs.Standing.{BookStands, HeapStands, KernelStands}
 use Rattle.k_commit.specs.Stepped.{HasStepped}
-use Rattle.k_frame.specs.PartUpdates.{done_in}
+use Rattle.k_laws.specs.PartUpdates.{done_in}
 use Rattle.k_commit.specs.k_heap.Heaps.{HeapRecord}
-use Rattle.k_commit.specs.k_moves.Moves.{noted}
-use Rattle.k_commit.specs.k_moves.Shown.{idle_part}
-use Rattle.k_squares.specs.Touches.{other_cells_in}
+use Rattle.k_commit.specs.k_agree.Moves.{noted}
+use Rattle.k_commit.specs.k_agree.Shown.{idle_part}
+use Rattle.k_laws.specs.Touches.{other_cells_in}
 use Rattle.k_depart.specs.Exiting.{EndsProcess, HasRoomToExit}
 
 -- the event of a kill that ends its target

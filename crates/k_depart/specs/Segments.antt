@@ -4,7 +4,7 @@ use Rattle.k_types.specs.declared.names.CellPhase.TheVariants.{Idle}
 use Rattle.k_types.specs.Owners.{object_bytes}
 use Rattle.k_types.specs.Totals.{total}
 use Rattle.k_commit.specs.k_cell.Holdings.{HoldingsValue}
-use Rattle.k_changes.specs.CellChanges.{either_of, with_objects}
+use Rattle.k_laws.specs.CellChanges.{either_of, with_objects}
 
 -- the heap has that segment alone, which the kernel has not and has a number for; no collection is open, and the bytes of both fit
 -- 64 bits

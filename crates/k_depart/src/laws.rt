@@ -5,7 +5,7 @@ ghost use Rattle.k_commit.specs.k_cell.Holdings.{HoldingsValue};
 ghost use Rattle.k_commit.specs.Beside.{HasSteppedBeside};
 ghost use Rattle.k_depart.specs.Killing.{HasKilled};
 ghost use Rattle.k_commit.specs.k_heap.Heaps.{HeapRecord};
-ghost use Rattle.k_commit.specs.k_moves.Moves.{noted};
+ghost use Rattle.k_commit.specs.k_agree.Moves.{noted};
 ghost use Rattle.k_types.specs.Trace.{Trace};
 ghost use Rattle.k_types.specs.declared.event.Event.{Event};
 ghost use Rattle.k_types.specs.declared.names.Heap.TheVariants.{Kernel, User};

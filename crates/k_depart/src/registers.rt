@@ -5,7 +5,7 @@ ghost use Rattle.k_types.specs.Counted.{counted};
 ghost use Rattle.k_types.specs.Names.{name_of};
 ghost use Rattle.k_types.specs.declared.names.Name.{Name as Named};
 ghost use Rattle.k_commit.specs.k_book.Calls.{ChangesPins};
-ghost use Rattle.k_changes.specs.BookChanges.{registers_in};
+ghost use Rattle.k_laws.specs.BookChanges.{registers_in};
 ghost use Rattle.k_commit.specs.k_heap.Heaps.{own_segment};
 ghost use Rattle.k_depart.specs.Registers.{ArePinned, HasLetGo};
 

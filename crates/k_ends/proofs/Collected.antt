@@ -16,7 +16,7 @@ use Rattle.k_types.specs.Numbers.{numbers_below}
 use Rattle.k_types.specs.State.{Sharing, opening}
 use Rattle.k_types.specs.Steps.{IsLegalHistory, IsPossible, state_after}
 use Rattle.k_types.specs.Trace.{segment_count, segment_of}
-use Rattle.k_frame.proofs.Histories.{legal_front}
+use Rattle.k_laws.proofs.Histories.{legal_front}
 use Rattle.k_book.specs.Books.{BookRecord}
 use Rattle.k_book.specs.Objects.{made_by, objects_after}
 use Rattle.k_cell.specs.Holdings.{HoldingsValue}
@@ -36,7 +36,7 @@ use Rattle.k_calls.specs.k_guests.declared.guest.Guest.{Guest}
 use Rattle.k_calls.specs.declared.errors.HostError.TheVariants.{Orphan}
 use Rattle.k_calls.specs.Refusals.{Lacks}
 use Rattle.k_calls.proofs.Lists.{found_passes}
-use Rattle.k_base.specs.Distinct.{AreDistinctNames}
+use Rattle.k_types.specs.Distinct.{AreDistinctNames}
 use Rattle.k_ends.proofs.Handed.{book_appended, ends_make_none, ends_take_none, exits_fit, few_published, kept_published, lives_now, own_few}
 use Rattle.k_ends.specs.Collecting.{CanAbsorbNow, CanBeginKernel, CanExitNow, CanGoOn, CanMarkGuest, CanMarkKernel, HasAbsorbedNow, HasBegun, HasBegunKernel, HasEnded, HasExitedNow, HasGoneOn, HasMarkedGuest, HasMarkedKernel, HasSettled, HasSettledKernel, KernelHasEnded}
 use Rattle.k_calls.specs.k_guests.Serving.{Basis, BookServes, GuestServes, HasReserveAt, HasSegment, KernelServes}
@@ -372,7 +372,7 @@ module _ (basis : Basis) (s : SharedRecord) (k : HoldingsValue) (b : BookRecord)
       segment = ap (λ (y : SharedRecord). y.seg.0) d.shared_is ∙ can.shared.segment ∙ ap (λ (y : SharedRecord). segment_of basis.trace (Shared y.id)) (sym d.shared_is);
       idle = d.idle;
       exits = ap (λ (y : SharedRecord). y.exit_room) d.shared_is ∙ can.shared.exits;
-      serials = λ stands. absurd (false≢true (sym stands ∙ ap Rattle.k_calls.specs.k_locked.Keeping.is_absorbed_in d.phase));
+      serials = λ stands. absurd (false≢true (sym stands ∙ ap Rattle.k_calls.specs.k_process.Keeping.is_absorbed_in d.phase));
     };
     same = ap (λ (y : SharedRecord). y.id) d.shared_is;
     event_is = d.event_is;

@@ -14,9 +14,9 @@ use Rattle.k_types.specs.Owners.{user}
 use Rattle.k_types.specs.State.{State, opening}
 use Rattle.k_types.specs.Steps.{IsLegalHistory, IsPossible, state_after}
 use Rattle.k_types.specs.Trace.{Trace, process_count}
-use Rattle.k_base.specs.Distinct.{AreDistinctNames}
-use Rattle.k_bounds.specs.Counts.{exit_count}
-use Rattle.k_frame.proofs.Histories.{legal_rest}
+use Rattle.k_types.specs.Distinct.{AreDistinctNames}
+use Rattle.k_laws.specs.Counts.{exit_count}
+use Rattle.k_laws.proofs.Histories.{legal_rest}
 use Rattle.k_agree.specs.Agreement.{Agrees, BookAgrees, Shows}
 use Rattle.k_agree.specs.Meeting.{Fits}
 use Rattle.k_agree.proofs.Meetings.{meeting}

@@ -13,9 +13,9 @@ use Rattle.k_types.specs.Limits.{is_above}
 use Rattle.k_types.specs.Names.{among}
 use Rattle.k_types.specs.Steps.{IsPossible, state_after}
 use Rattle.k_types.specs.Trace.{segment_count}
-use Rattle.k_squares.specs.Touches.{ends_other_in, other_cells_in}
-use Rattle.k_moves.specs.Shown.{idle_part}
-use Rattle.k_moves.proofs.Killing.{ends_by, never_one}
+use Rattle.k_laws.specs.Touches.{ends_other_in, other_cells_in}
+use Rattle.k_agree.specs.Shown.{idle_part}
+use Rattle.k_agree.proofs.Killing.{ends_by, never_one}
 use Rattle.k_book.specs.Books.{BookRecord}
 use Rattle.k_book.specs.Objects.{made_by}
 use Rattle.k_cell.specs.Holdings.{HoldingsValue}
@@ -32,8 +32,8 @@ use Rattle.k_calls.proofs.Due.{book_published, can_publish, guest_published, lon
 use Rattle.k_calls.proofs.Going.{guest_goes_on}
 use Rattle.k_calls.specs.k_guests.Reserve.{Spares}
 use Rattle.k_calls.proofs.TestedRooms.{event_left}
-use Rattle.k_squares.specs.Locals.{is_local_in}
-use Rattle.k_base.specs.Distinct.{AreDistinctNames}
+use Rattle.k_laws.specs.Locals.{is_local_in}
+use Rattle.k_types.specs.Distinct.{AreDistinctNames}
 use Rattle.k_ends.proofs.Handed.{book_appended, exits_fit, own_few}
 use Rattle.k_ends.specs.Killing.{CanKillNow, EndsThis, HasKilledNow}
 

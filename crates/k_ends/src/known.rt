@@ -1,6 +1,6 @@
 //! What the tables of cells keep, told where a step asks for it.
 ghost use Rattle.std.specs.Prelude.{◌≤◌, length};
-ghost use Rattle.k_base.specs.Distinct.{AreDistinctNames};
+ghost use Rattle.k_types.specs.Distinct.{AreDistinctNames};
 
 use k_heap::HeapCell;
 use k_kernel::KernelCell;

@@ -3,11 +3,11 @@ use Rattle.std.proofs.Common.{◌≡◌, ◌≢◌, ◌==◌, ℕ, ◌+◌, ◌<
 use Rattle.std.proofs.lemmas.Bool.{false_from_ne_true}
 use Rattle.std.proofs.lemmas.List.Sums.{sum_by-cons}
 use Rattle.std.proofs.lemmas.List.{map-append}
-use Rattle.k_base.proofs.Sums.{total_append}
-use Rattle.k_base.specs.k_types.Totals.{total}
-use Rattle.k_base.specs.k_types.declared.names.Name.{Name}
-use Rattle.k_base.specs.k_types.Names.{name_eq}
-use Rattle.k_base.specs.k_types.Counted.{Counted, counted}
+use Rattle.k_types.proofs.Sums.{total_append}
+use Rattle.k_types.specs.Totals.{total}
+use Rattle.k_types.specs.declared.names.Name.{Name}
+use Rattle.k_types.specs.Names.{name_eq}
+use Rattle.k_types.specs.Counted.{Counted, counted}
 use Rattle.k_lists.specs.Lists.{is_in}
 use Rattle.k_entry.specs.declared.item.Item.{Item}
 use Rattle.k_entry.specs.Entries.{EntryValue, AreEntries, HasMore, HasLess}

@@ -3,13 +3,13 @@ use Rattle.std.proofs.Common.{◌≡◌, ℕ, zero, suc, ◌+◌, ◌<◌, ◌�
 use Rattle.std.proofs.lemmas.Bool.{false_from_ne_true}
 use Rattle.std.proofs.lemmas.List.{length-map, get_or_default}
 use Rattle.std.specs.List.{concat}
-use Rattle.k_base.specs.k_types.Totals.{total}
-use Rattle.k_base.specs.k_types.declared.names.Name.{Name}
-use Rattle.k_base.specs.k_types.declared.names.Heap.{Heap}
-use Rattle.k_base.specs.k_types.declared.names.Heap.TheVariants.{Kernel}
-use Rattle.k_base.specs.k_types.Names.{name_eq}
-use Rattle.k_base.specs.k_types.Counted.{Counted, counted}
-use Rattle.k_base.proofs.NameTests.{name_eq-true, name_eq_refl}
+use Rattle.k_types.specs.Totals.{total}
+use Rattle.k_types.specs.declared.names.Name.{Name}
+use Rattle.k_types.specs.declared.names.Heap.{Heap}
+use Rattle.k_types.specs.declared.names.Heap.TheVariants.{Kernel}
+use Rattle.k_types.specs.Names.{name_eq}
+use Rattle.k_types.specs.Counted.{Counted, counted}
+use Rattle.k_types.proofs.NameTests.{name_eq-true, name_eq_refl}
 use Rattle.k_lists.specs.Lists.{ListsValue, AreApart, members, is_in}
 use Rattle.k_entry.specs.declared.item.Item.{Item}
 use Rattle.k_entry.specs.Entries.{AreEntries, home_of}

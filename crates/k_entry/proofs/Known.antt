@@ -1,8 +1,8 @@
 -- Slots with a count above 0 are in the chains of their objects.
 use Rattle.std.proofs.Common.{◌≡◌, ◌≢◌, ℕ, ◌<◌, true, sym, ap, subst, ◌∙◌, List, [], length, set, count_by, ◌≤◌, length-set, get_or-set_same, get_or-set_other, arith}
-use Rattle.k_base.specs.k_types.declared.names.Name.{Name}
-use Rattle.k_base.specs.k_types.Names.{name_eq}
-use Rattle.k_base.specs.k_types.Counted.{Counted}
+use Rattle.k_types.specs.declared.names.Name.{Name}
+use Rattle.k_types.specs.Names.{name_eq}
+use Rattle.k_types.specs.Counted.{Counted}
 use Rattle.k_lists.specs.Lists.{ListsValue, members, is_in}
 use Rattle.k_entry.specs.declared.item.Item.{Item}
 use Rattle.k_entry.specs.Slots.{at, blank, row_of, row_at, bucket, Parts, used, shown, AreKept, AreKnown}

@@ -1,7 +1,7 @@
 -- A table with an item less.
 use Rattle.std.proofs.Common.{◌≡◌, ◌+◌, ◌≢◌, ℕ, ◌<◌, true, refl, sym, ap, subst, ◌∙◌, ◌∷◌, length, set, arith}
 use Rattle.std.specs.List.{concat}
-use Rattle.k_base.specs.k_types.declared.names.Name.{Name}
+use Rattle.k_types.specs.declared.names.Name.{Name}
 use Rattle.k_lists.specs.Lists.{ListsValue, AreApart, IsFree, members, is_in, without}
 use Rattle.k_entry.specs.Entries.{HasLess, home_of}
 use Rattle.k_entry.specs.Slots.{at, row_at, bucket, walk_of, left, Parts, order, used, shown, AreKept, HaveSizes}

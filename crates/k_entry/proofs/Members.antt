@@ -4,11 +4,11 @@ use Rattle.std.proofs.lemmas.Bool.{false_from_ne_true, or_left, or_right}
 use Rattle.k_lists.specs.Lists.{ListsValue, AreApart, members, is_in, without}
 use Rattle.k_lists.proofs.Members.{in_at, place_of}
 use Rattle.k_entry.specs.Slots.{since, onward}
-use Rattle.k_base.specs.k_types.declared.names.Name.{Name}
-use Rattle.k_base.specs.k_types.Counted.{Counted}
-use Rattle.k_base.specs.k_types.Names.{name_among, name_eq}
-use Rattle.k_base.proofs.Lists.{some_one}
-use Rattle.k_base.proofs.NameTests.{name_eq-same}
+use Rattle.k_types.specs.declared.names.Name.{Name}
+use Rattle.k_types.specs.Counted.{Counted}
+use Rattle.k_types.specs.Names.{name_among, name_eq}
+use Rattle.k_types.proofs.Lists.{some_one}
+use Rattle.k_types.proofs.NameTests.{name_eq-same}
 use Rattle.k_entry.specs.Entries.{first_object, objects, object_after}
 
 -- no number stands in two places

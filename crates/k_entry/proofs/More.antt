@@ -3,11 +3,11 @@ use Rattle.std.proofs.Common.{◌≡◌, ◌+◌, ◌≢◌, ℕ, zero, suc, ◌
 use Rattle.std.proofs.lemmas.Bool.{false_from_ne_true}
 use Rattle.std.proofs.lemmas.List.{length-map}
 use Rattle.std.specs.List.{concat}
-use Rattle.k_base.specs.k_types.Totals.{total}
-use Rattle.k_base.specs.k_types.declared.names.Name.{Name}
-use Rattle.k_base.specs.k_types.Names.{name_eq}
-use Rattle.k_base.specs.k_types.Counted.{Counted}
-use Rattle.k_base.proofs.NameTests.{name_eq-true}
+use Rattle.k_types.specs.Totals.{total}
+use Rattle.k_types.specs.declared.names.Name.{Name}
+use Rattle.k_types.specs.Names.{name_eq}
+use Rattle.k_types.specs.Counted.{Counted}
+use Rattle.k_types.proofs.NameTests.{name_eq-true}
 use Rattle.k_lists.specs.Lists.{ListsValue, AreApart, members, is_in}
 use Rattle.k_entry.specs.declared.item.Item.{Item}
 use Rattle.k_entry.specs.Entries.{HasMore, home_of}

@@ -3,11 +3,11 @@ use Rattle.std.proofs.Common.{◌≡◌, ◌≢◌, ℕ, ◌<◌, ◌≤◌, tru
 use Rattle.std.specs.List.{concat}
 use Rattle.std.specs.List.Sorted.{IsPermutation}
 use Rattle.std.proofs.lemmas.List.Sorted.{IsPermutation-refl, IsPermutation-sym, IsPermutation-trans, IsPermutation-append_comm, IsPermutation-append_left, IsPermutation-map, sum_by-IsPermutation, length_permutation}
-use Rattle.k_base.specs.k_types.Totals.{total}
-use Rattle.k_base.specs.k_types.declared.names.Name.{Name}
-use Rattle.k_base.specs.k_types.declared.names.Heap.{Heap}
-use Rattle.k_base.specs.k_types.Counted.{Counted, counted}
-use Rattle.k_base.specs.k_types.declared.names.Heap.TheVariants.{Kernel}
+use Rattle.k_types.specs.Totals.{total}
+use Rattle.k_types.specs.declared.names.Name.{Name}
+use Rattle.k_types.specs.declared.names.Heap.{Heap}
+use Rattle.k_types.specs.Counted.{Counted, counted}
+use Rattle.k_types.specs.declared.names.Heap.TheVariants.{Kernel}
 use Rattle.k_lists.specs.Lists.{ListsValue, AreApart, members, is_in}
 use Rattle.k_entry.specs.Entries.{home_of}
 use Rattle.k_entry.specs.Slots.{row_at, walk_of, left, changed, Parts, order, used, shown, AreKept}

@@ -1,8 +1,8 @@
 -- How far a walk along a list has come.
 use Rattle.std.proofs.Common.{◌≡◌, ◌==◌, ◌||◌, ℕ, ◌<◌, Bool, true, false, refl, sym, ap, subst, ◌∙◌, cond, List, [], ◌∷◌, ◌++◌, ◌+◌, length, slice_get, Option, Some, None, IfSome, eqb-true, append-nil, arith}
-use Rattle.k_base.specs.k_types.declared.names.Name.{Name}
-use Rattle.k_base.specs.k_types.declared.names.Heap.{Heap}
-use Rattle.k_base.specs.k_types.Names.{name_eq, heap_eq}
+use Rattle.k_types.specs.declared.names.Name.{Name}
+use Rattle.k_types.specs.declared.names.Heap.{Heap}
+use Rattle.k_types.specs.Names.{name_eq, heap_eq}
 use Rattle.k_lists.specs.Lists.{is_in}
 use Rattle.k_entry.specs.declared.item.Item.{Item}
 use Rattle.k_entry.specs.Entries.{home_of}

@@ -2,14 +2,14 @@
 use Rattle.std.proofs.Common.{◌≡◌, ℕ, zero, suc, ◌+◌, ◌<◌, ◌≤◌, ◌&&◌, ◌||◌, Bool, true, false, cond, refl, sym, ap, ◌∙◌, List, [], ◌∷◌, ◌++◌, append_assoc, length, filter, count_by, slice_get, nat_lt, Some, arith}
 use Rattle.std.proofs.lemmas.Bool.{lt-ltb}
 use Rattle.std.proofs.lemmas.List.Sums.{sum_by-cons}
-use Rattle.k_base.specs.k_types.Totals.{total}
-use Rattle.k_base.specs.k_types.declared.names.Name.{Name}
-use Rattle.k_base.specs.k_types.declared.names.Heap.{Heap}
-use Rattle.k_base.specs.k_types.Names.{name_eq, name_among, heap_eq}
-use Rattle.k_base.specs.k_types.Counted.{Counted, counted}
-use Rattle.k_base.specs.Distinct.{AreDistinctNames}
-use Rattle.k_base.proofs.Distinct.{distinct_names}
-use Rattle.k_base.proofs.NameTests.{name_eq-true, name_eq_refl}
+use Rattle.k_types.specs.Totals.{total}
+use Rattle.k_types.specs.declared.names.Name.{Name}
+use Rattle.k_types.specs.declared.names.Heap.{Heap}
+use Rattle.k_types.specs.Names.{name_eq, name_among, heap_eq}
+use Rattle.k_types.specs.Counted.{Counted, counted}
+use Rattle.k_types.specs.Distinct.{AreDistinctNames}
+use Rattle.k_types.proofs.Distinct.{distinct_names}
+use Rattle.k_types.proofs.NameTests.{name_eq-true, name_eq_refl}
 use Rattle.k_entry.specs.Entries.{EntryValue, AreEntries, first_object, home_of, items_of, object_after, objects, passed}
 use Rattle.k_entry.proofs.Counts.{bit, adds}
 

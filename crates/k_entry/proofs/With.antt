@@ -2,8 +2,8 @@
 use Rattle.std.proofs.Common.{◌≡◌, ℕ, zero, suc, ◌+◌, ◌<◌, true, refl, sym, ap, subst, ◌∙◌, List, [], ◌∷◌, ◌++◌, append_assoc, length, map, set, get_or, arith, length-append}
 use Rattle.std.proofs.lemmas.List.{map-append}
 use Rattle.std.specs.List.{concat}
-use Rattle.k_base.proofs.Sums.{total_append}
-use Rattle.k_base.specs.k_types.Totals.{total}
+use Rattle.k_types.proofs.Sums.{total_append}
+use Rattle.k_types.specs.Totals.{total}
 use Rattle.k_lists.specs.Lists.{is_in, without}
 use Rattle.k_entry.proofs.Members.{Once, split, once_after, without_split}
 

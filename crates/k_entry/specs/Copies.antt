@@ -1,6 +1,6 @@
 -- What is copied to the end of a row that takes no memory.
 use Rattle.std.specs.Prelude.{◌≡◌, ◌<◌, ◌++◌, ℕ, Bool, IsTrue, IsFalse, List, [], length}
-use Rattle.k_base.specs.k_types.declared.names.Name.{Name}
+use Rattle.k_types.specs.declared.names.Name.{Name}
 
 -- the front of the names stands at the end of the row, which has room for so many: all of them, or else the row is full
 pub record IsCopied (room : ℕ) (old new names : List Name) (all : Bool) : Type 0 where

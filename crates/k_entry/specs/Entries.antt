@@ -1,10 +1,10 @@
 -- What a contract sees of the counted objects.
 use Rattle.std.specs.Prelude.{◌≡◌, ℕ, zero, suc, ◌+◌, ◌<◌, ◌≤◌, ◌==◌, Bool, List, [], ◌∷◌, map, filter, length, count_by, slice_get, slice_index_or, Option, Some, None, if◌then◌else◌}
-use Rattle.k_base.specs.k_types.declared.names.Name.{Name}
-use Rattle.k_base.specs.k_types.declared.names.Heap.{Heap}
-use Rattle.k_base.specs.k_types.declared.names.Heap.TheVariants.{Kernel}
-use Rattle.k_base.specs.k_types.Names.{name_eq, heap_eq}
-use Rattle.k_base.specs.k_types.Counted.{Counted, counted}
+use Rattle.k_types.specs.declared.names.Name.{Name}
+use Rattle.k_types.specs.declared.names.Heap.{Heap}
+use Rattle.k_types.specs.declared.names.Heap.TheVariants.{Kernel}
+use Rattle.k_types.specs.Names.{name_eq, heap_eq}
+use Rattle.k_types.specs.Counted.{Counted, counted}
 
 -- the items in the order of the walks, the home heap of each segment, and how many items there can be
 pub record EntryValue : Type 0 where

@@ -7,8 +7,8 @@ ghost use Rattle.k_entry.specs.Slots.{homed, objects_in, walk_of};
 
 use crate::item::Item;
 use crate::walks::{is_same, walk_number};
-use k_base::{Heap, Name};
 use k_lists::Lists;
+use k_types::{Heap, Name};
 
 /// Copies the objects in the slots of that list, as far as there is room, and tells whether these were all.
 fn copy_list(slots: &[Item], lists: &Lists, list: usize, row: &mut Vec<Name>) -> bool

@@ -4,8 +4,8 @@ ghost use Rattle.k_entry.specs.Slots.{AreChained, buckets};
 
 use crate::item::{Item, chain_count, chain_of};
 use crate::table::EntryTable;
-use k_base::NoMemory;
 use k_lists::Lists;
+use k_types::NoMemory;
 use std::alloc::Global;
 use std::marker::Model;
 

@@ -1,11 +1,11 @@
 //! The items in their slots, and how the one of an object is found.
 ghost use Rattle.std.specs.Prelude.{◌≡◌, ◌<◌, ◌≤◌, ◌^◌, ℕ, Some, None, IfSome, IfNone, IsTrue, IsFalse, length, vec_capacity, slice_get, option_map};
-ghost use Rattle.k_base.specs.k_types.Names.{name_eq, name_of};
+ghost use Rattle.k_types.specs.Names.{name_eq, name_of};
 ghost use Rattle.k_lists.specs.Lists.{AreApart, members, is_in};
 ghost use Rattle.k_entry.specs.Slots.{at, bucket, buckets, GivesSlot};
 
-use k_base::{Link, Name, Slot};
 use k_lists::Lists;
+use k_types::{Link, Name, Slot};
 
 /// An object, and how often something holds it.
 #[derive(Clone, Copy)]

@@ -1,11 +1,11 @@
 //! Laws of the definitions.
 ghost use Rattle.std.specs.Prelude.{List, ◌≡◌, ◌≤◌, ◌&&◌, ◌++◌, ◌∷◌, ℕ, length, nat_lt};
-ghost use Rattle.k_base.specs.k_types.Counted.{Counted, counted};
-ghost use Rattle.k_base.specs.k_types.Names.{heap_eq, name_among};
-ghost use Rattle.k_base.specs.k_types.Totals.{total};
-ghost use Rattle.k_base.specs.k_types.declared.names.Heap.{Heap};
-ghost use Rattle.k_base.specs.k_types.declared.names.Name.{Name};
-ghost use Rattle.k_base.specs.Distinct.{AreDistinctNames};
+ghost use Rattle.k_types.specs.Counted.{Counted, counted};
+ghost use Rattle.k_types.specs.Names.{heap_eq, name_among};
+ghost use Rattle.k_types.specs.Totals.{total};
+ghost use Rattle.k_types.specs.declared.names.Heap.{Heap};
+ghost use Rattle.k_types.specs.declared.names.Name.{Name};
+ghost use Rattle.k_types.specs.Distinct.{AreDistinctNames};
 ghost use Rattle.k_entry.specs.Entries.{AreEntries, EntryValue, first_object, home_of, items_of, object_after, objects, passed};
 
 /// A walk from the first object of a home gives each object of that home once, and ends.

@@ -1,17 +1,17 @@
 //! The table of the objects that are held from outside their heaps.
 ghost use Rattle.std.specs.Prelude.{◌≡◌, ◌+◌, ◌-◌, ◌<◌, ◌≤◌, ◌^◌, [], ℕ, Some, None, IfOk, IfSome, IfNone, length, option_map, slice_set, vec_capacity};
 ghost use Rattle.std.specs.List.Sorted.{IsPermutation};
-ghost use Rattle.k_base.specs.k_types.declared.names.Name.{Name as Named};
-ghost use Rattle.k_base.specs.k_types.Names.{name_of};
-ghost use Rattle.k_base.specs.k_types.Counted.{counted};
+ghost use Rattle.k_types.specs.declared.names.Name.{Name as Named};
+ghost use Rattle.k_types.specs.Names.{name_of};
+ghost use Rattle.k_types.specs.Counted.{counted};
 ghost use Rattle.k_entry.specs.Copies.{IsCopied};
 ghost use Rattle.k_entry.specs.Entries.{AreEntries, HasMore, HasLess, first_object, object_after, objects, items_of, home_of};
 
 use crate::copying::copy_walk;
 use crate::item::{Item, chain_count, chain_of, find, link_at, slot_of, take_slot};
 use crate::walks::{change_walk, first_from, put_in, take_out, walk_number};
-use k_base::{Heap, Link, Name, NoMemory, Seg, Slot};
 use k_lists::Lists;
+use k_types::{Heap, Link, Name, NoMemory, Seg, Slot};
 use std::alloc::Global;
 use std::marker::Model;
 

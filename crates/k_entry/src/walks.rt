@@ -1,12 +1,12 @@
 //! The walks: the segments of each home that have an item, and their slots.
 ghost use Rattle.std.specs.Prelude.{◌≡◌, ◌<◌, ◌≤◌, ◌+◌, ◌∷◌, [], ◌^◌, ℕ, Some, None, IfSome, IsTrue, length, slice_set};
-ghost use Rattle.k_base.specs.k_types.Names.{heap_eq};
+ghost use Rattle.k_types.specs.Names.{heap_eq};
 ghost use Rattle.k_lists.specs.Lists.{AreApart, IsFree, members, is_in, without};
 ghost use Rattle.k_entry.specs.Entries.{home_of};
 ghost use Rattle.k_entry.specs.Slots.{walk_of, entered, left, changed, first_slot, homed, onward};
 
-use k_base::{Heap, Seg};
 use k_lists::Lists;
+use k_types::{Heap, Seg};
 
 /// Whether the two heaps are one.
 pub(crate) fn is_same(a: Heap, b: Heap) -> bool

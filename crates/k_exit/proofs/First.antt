@@ -1,7 +1,7 @@
 -- So many items at the front that are marked.
 use Rattle.std.proofs.Common.{◌≡◌, ◌||◌, ◌&&◌, ℕ, zero, suc, Bool, true, false, refl, ap, ◌∙◌, List, [], ◌∷◌, ◌++◌, length, map, take, drop}
-use Rattle.k_base.specs.k_types.declared.names.Name.{Name}
-use Rattle.k_base.specs.k_types.Names.{name_among, name_eq}
+use Rattle.k_types.specs.declared.names.Name.{Name}
+use Rattle.k_types.specs.Names.{name_among, name_eq}
 use Rattle.k_exit.specs.declared.chains.Item.{Item}
 use Rattle.k_exit.specs.Chains.{at, marked_item, row_of}
 use Rattle.k_exit.specs.Exits.{AreDistinct, ExitRow, marked_first, target_marked, targets}

@@ -6,9 +6,9 @@ pub mod Lists
 pub mod First
 pub mod Takes
 pub mod Order
-pub use Rattle.k_base.proofs.Charges
-pub use Rattle.k_base.proofs.Lists as BaseLists
-pub use Rattle.k_base.proofs.NameTests
-pub use Rattle.k_base.proofs.Objects
-pub use Rattle.k_base.proofs.Ordered
-pub use Rattle.k_base.proofs.Sums
+pub use Rattle.k_types.proofs.Charges
+pub use Rattle.k_types.proofs.Lists as BaseLists
+pub use Rattle.k_types.proofs.NameTests
+pub use Rattle.k_types.proofs.Objects
+pub use Rattle.k_types.proofs.Ordered
+pub use Rattle.k_types.proofs.Sums

@@ -1,8 +1,8 @@
 -- What the links of the chains say.
 use Rattle.std.proofs.Common.{◌≡◌, ◌≢◌, ◌==◌, ℕ, suc, ◌<◌, ◌≤◌, ◌&&◌, not, true, false, refl, sym, ap, ap₂, ◌∙◌, inl, inr, List, length, eqb-true, eq-eqb, arith}
 use Rattle.std.proofs.lemmas.Bool.{cases_eq, cases_lt, false≢true, and_from, and_parts, false_from_ne_true}
-use Rattle.k_base.specs.k_types.declared.names.Name.{Name}
-use Rattle.k_base.specs.k_types.Names.{name_eq}
+use Rattle.k_types.specs.declared.names.Name.{Name}
+use Rattle.k_types.specs.Names.{name_eq}
 use Rattle.k_exit.specs.declared.chains.Item.{Item}
 use Rattle.k_hash.specs.Hash.{bucket}
 use Rattle.k_exit.specs.Chains.{at, last, in_chain, IsChained}

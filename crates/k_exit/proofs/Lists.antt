@@ -1,25 +1,23 @@
 -- What the calls of a table do to its list.
-use Rattle.std.proofs.Common.{◌≡◌, ◌≢◌, ◌==◌, ◌||◌, ◌&&◌, ℕ, zero, suc, ◌+◌, ◌-◌, ◌<◌, ◌≤◌, not, Bool, true, false, cond, refl, sym, ap, ap₂, subst, ◌∙◌, inl, inr, List, [], ◌∷◌, ◌++◌, length, map, get_or, set, slice_get, count_by, Option, Some, None, IfSome, IfNone, is_some, arith}
+use Rattle.std.proofs.Common.{◌≡◌, ◌≢◌, ◌==◌, ◌||◌, ◌&&◌, ℕ, zero, suc, ◌+◌, ◌-◌, ◌<◌, ◌≤◌, not, Bool, true, false, cond, refl, sym, ap, ap₂, subst, ◌∙◌, inl, inr, List, [], ◌∷◌, ◌++◌, length, map, get_or, set, slice_get, count_by, Option, Some, None, IfSome, IfNone, is_some, arith, take}
 use Rattle.std.specs.List.{list_any}
 use Rattle.std.proofs.lemmas.Bool.{cases_eq, false≢true, or_left, or_right, false_from_ne_true}
 use Rattle.std.proofs.lemmas.List.Sums.{sum_by-cons, sum_by-append}
-use Rattle.k_base.specs.k_types.declared.names.Name.{Name}
-use Rattle.k_base.specs.k_types.Names.{name_eq}
+use Rattle.k_types.specs.declared.names.Name.{Name}
+use Rattle.k_types.specs.Names.{name_eq}
 use Rattle.k_exit.specs.declared.chains.Item.{Item}
 use Rattle.k_exit.specs.Exits.{ExitRow, AreDistinct, has_target, marked_if, unmarked_row}
 use Rattle.k_hash.specs.Hash.{bucket}
-use Rattle.k_exit.specs.Chains.{row_of, blank, at, last, in_chain, IsLinked, IsChained, is_wanted, HasPassed}
-use Rattle.std.proofs.Common.{take}
+use Rattle.k_exit.specs.Chains.{row_of, blank, at, last, in_chain, IsLinked, IsChained, is_wanted, HasPassed, rows_without, unmarked_item}
 use Rattle.std.proofs.lemmas.Option.{get_or_from_slice_get, slice_get_within, slice_get-get_or}
 use Rattle.std.proofs.lemmas.List.{get_or-set_same, get_or-set_other, length-set, get_or_default, length-map}
 use Rattle.std.specs.List.Sorted.{IsPermutation}
 use Rattle.std.proofs.lemmas.List.Sorted.{IsPermutation-swap_remove, sum_by-IsPermutation}
 use Rattle.k_exit.specs.declared.table.Wanted.{Wanted}
 use Rattle.k_exit.specs.declared.table.Wanted.TheVariants.{Any, Unmarked, Into}
-use Rattle.k_exit.specs.Chains.{rows_without, unmarked_item}
 use Rattle.k_exit.proofs.Removes.{front_at, front_len}
 use Rattle.k_exit.proofs.Last.{last_same}
-use Rattle.k_base.proofs.NameTests.{name_eq-true, name_eq-same}
+use Rattle.k_types.proofs.NameTests.{name_eq-true, name_eq-same}
 
 abbrev bit : Bool → ℕ
 bit b = cond b 1 0

@@ -1,10 +1,10 @@
 -- A list in order of its targets.
 use Rattle.std.proofs.Common.{◌≡◌, ℕ, zero, suc, Bool, true, cond, refl, ap, ◌∙◌, List, [], ◌∷◌, map, get_or, slice_get, Some, arith}
-use Rattle.k_base.specs.k_types.Names.{name_eq}
+use Rattle.k_types.specs.Names.{name_eq}
 use Rattle.k_exit.specs.declared.chains.Item.{Item}
 use Rattle.k_exit.specs.Chains.{row_of, blank}
 use Rattle.k_exit.specs.Exits.{ExitRow, AreDistinct}
-use Rattle.k_base.proofs.NameTests.{name_eq-same}
+use Rattle.k_types.proofs.NameTests.{name_eq-same}
 use Rattle.k_exit.proofs.Lists.{count-cons, once}
 
 -- two places of a list of distinct targets have two

@@ -2,9 +2,9 @@
 use Rattle.std.specs.Prelude.{◌≡◌, ℕ, ◌+◌, ◌≤◌, ◌==◌, ◌&&◌, ◌||◌, not, Bool, true, false, List, [], ◌∷◌, ◌++◌, length, map, take, drop, slice_get, count_by, Some, if◌then◌else◌, IsTrue}
 use Rattle.std.specs.List.{list_any}
 use Rattle.std.specs.List.Sorted.{IsPermutation}
-use Rattle.k_base.specs.k_types.declared.names.Name.{Name}
-use Rattle.k_base.specs.k_types.declared.names.Link.{Link}
-use Rattle.k_base.specs.k_types.Names.{name_eq, name_lt, name_of}
+use Rattle.k_types.specs.declared.names.Name.{Name}
+use Rattle.k_types.specs.declared.names.Link.{Link}
+use Rattle.k_types.specs.Names.{name_eq, name_lt, name_of}
 
 -- a target, and whether it is marked
 pub record ExitRow : Type 0 where

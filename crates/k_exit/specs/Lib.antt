@@ -1,3 +1,3 @@
 pub mod Exits
 pub mod Chains
-pub use Rattle.k_base.specs as k_base
+pub use Rattle.k_types.specs as k_types

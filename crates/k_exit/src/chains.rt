@@ -3,8 +3,8 @@ ghost use Rattle.std.specs.Prelude.{◌≡◌, ◌<◌, ◌≤◌, ◌^◌, ◌�
 ghost use Rattle.k_hash.specs.Hash.{bucket};
 ghost use Rattle.k_exit.specs.Chains.{IsChained, IsLinked, IsLinkedAbove, IsNextAbove, HasNoneAbove, at, row_of, rows_without, with_next};
 
-use k_base::{Name, NoMemory};
 use k_hash::chain_of;
+use k_types::{Name, NoMemory};
 use std::alloc::Global;
 
 /// A target, and the next item of its chain.

@@ -3,7 +3,7 @@ ghost use Rattle.std.specs.Prelude.{◌≡◌, ◌≤◌, [], IfOk, OnErr, OnOk,
 
 use crate::chains::{Item, empty_heads, relink};
 use crate::table::ExitTable;
-use k_base::NoMemory;
+use k_types::NoMemory;
 use std::alloc::Global;
 use std::marker::Model;
 

@@ -1,6 +1,6 @@
 //! Laws of the definitions.
 ghost use Rattle.std.specs.Prelude.{List};
-ghost use Rattle.k_base.specs.Distinct.{AreDistinctNames};
+ghost use Rattle.k_types.specs.Distinct.{AreDistinctNames};
 ghost use Rattle.k_exit.specs.Exits.{ExitRow, AreDistinct, targets};
 
 /// Targets of which none is counted twice are distinct names, and the other way about.

@@ -1,7 +1,6 @@
 -- Orphans absorbed one after the other: what is left to absorb.
 use Rattle.std.proofs.Common.{◌≡◌, ◌≢◌, ℕ, zero, suc, ◌+◌, ◌-◌, ◌<◌, ◌≤◌, ◌&&◌, not, Bool, true, false, cond, refl, sym, ap, ap₂, subst, ◌∙◌, List, [], ◌∷◌, ◌++◌, map, filter, length, arith, get_or-set_other, if◌then◌else◌}
-use Rattle.std.proofs.lemmas.List.{append_assoc}
-use Rattle.std.proofs.lemmas.List.{length-map}
+use Rattle.std.proofs.lemmas.List.{append_assoc, length-map}
 use Rattle.std.proofs.lemmas.List.Sums.{count_by-le-length, length-filter}
 use Rattle.k_types.specs.declared.op.Op.{Op}
 use Rattle.k_types.specs.declared.event.Event.{Event}
@@ -19,7 +18,7 @@ use Rattle.k_state.specs.Rooms.{HasRoom}
 use Rattle.k_filed.specs.Taken.{HasTaken, first_events}
 use Rattle.k_solo.proofs.Rooms.{less_room, step_room}
 use Rattle.k_state.proofs.Sums.{numbers_left}
-use Rattle.k_base.proofs.Lists.{numbers_length}
+use Rattle.k_types.proofs.Lists.{numbers_length}
 
 abbrev absorb : ℕ → Event
 absorb s = AbsorbedEvent (record { 0 = s })

@@ -10,8 +10,8 @@ use Rattle.k_types.specs.State.{State, opening}
 use Rattle.k_types.specs.Steps.{IsRun, run, state_after}
 use Rattle.k_types.specs.Trace.{Trace}
 use Rattle.k_types.specs.TraceRules.{KeepsRules}
-use Rattle.k_frame.proofs.Histories.{legal_front, legal_rest, run_append}
-use Rattle.k_known.proofs.KnownEvents.{history_known}
+use Rattle.k_laws.proofs.Histories.{legal_front, legal_rest, run_append}
+use Rattle.k_laws.proofs.KnownEvents.{history_known}
 use Rattle.k_plain.proofs.FileOrders.{file_order_complete, file_order_legal, order_end}
 use Rattle.k_state.specs.Machines.{Machine}
 use Rattle.k_state.specs.Setups.{setup_of}

@@ -6,7 +6,7 @@ use Rattle.k_types.specs.declared.event.Event.{Event}
 use Rattle.k_types.specs.State.{State}
 use Rattle.k_types.specs.Steps.{IsRun, run}
 use Rattle.k_types.specs.Trace.{Trace}
-use Rattle.k_frame.proofs.Histories.{legal_rest, run_append}
+use Rattle.k_laws.proofs.Histories.{legal_rest, run_append}
 use Rattle.k_state.specs.Machines.{Machine}
 use Rattle.k_state.specs.Rooms.{HasRoom}
 use Rattle.k_filed.specs.Taken.{HasTaken}

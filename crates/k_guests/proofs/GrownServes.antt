@@ -9,15 +9,15 @@ use Rattle.k_types.specs.Numbers.{numbers_below}
 use Rattle.k_types.specs.State.{State}
 use Rattle.k_types.specs.Steps.{state_after}
 use Rattle.k_types.specs.Trace.{process_count}
-use Rattle.k_base.proofs.Lists.{numbers_length}
-use Rattle.k_base.proofs.Sums.{ones, total_at_most}
-use Rattle.k_bounds.specs.Counts.{exit_count}
+use Rattle.k_types.proofs.Lists.{numbers_length}
+use Rattle.k_types.proofs.Sums.{ones, total_at_most}
+use Rattle.k_laws.specs.Counts.{exit_count}
 use Rattle.k_book.specs.Books.{BookRecord}
 use Rattle.k_cell.specs.Holdings.{HoldingsValue}
 use Rattle.k_heap.specs.Heaps.{has_ended_in, own_segment}
 use Rattle.k_shared.specs.SharedHeaps.{SharedRecord}
 use Rattle.k_shares.specs.Sharers.{living_of}
-use Rattle.k_locked.specs.Keeping.{is_absorbed_in}
+use Rattle.k_process.specs.Keeping.{is_absorbed_in}
 use Rattle.k_guests.specs.declared.guest.Guest.{Guest}
 use Rattle.k_guests.specs.declared.rooms.Rooms.{Rooms}
 use Rattle.k_guests.specs.Growing.{AreLarger, OfEach, basis_with_rooms, book_with_rooms, guest_with_rooms, heap_with_rooms, kernel_with_rooms, with_object_room}

@@ -6,8 +6,8 @@ pub mod SegmentRooms
 pub mod Reserve
 pub mod Objects
 pub mod ReserveShown
-pub use Rattle.k_locked.proofs.CanDo
-pub use Rattle.k_locked.proofs.Kept
-pub use Rattle.k_locked.proofs.LocalKept
-pub use Rattle.k_locked.proofs.Steps
-pub use Rattle.k_locked.proofs.Lists
+pub use Rattle.k_process.proofs.CanDo
+pub use Rattle.k_process.proofs.Kept
+pub use Rattle.k_process.proofs.LocalKept
+pub use Rattle.k_process.proofs.Steps
+pub use Rattle.k_process.proofs.Lists

@@ -10,8 +10,8 @@ use Rattle.k_types.specs.declared.names.SharedId.{SharedId}
 use Rattle.k_types.specs.Numbers.{numbers_below, numbers_from}
 use Rattle.k_types.specs.Steps.{state_after}
 use Rattle.k_types.specs.Trace.{Trace, process_count, segment_count, segment_of}
-use Rattle.k_base.proofs.Lists.{numbers_length, at_number}
-use Rattle.k_base.proofs.Sums.{ones}
+use Rattle.k_types.proofs.Lists.{numbers_length, at_number}
+use Rattle.k_types.proofs.Sums.{ones}
 use Rattle.k_tie.specs.Values.{JournalValue, NoteValue, blank_note, empty_journal}
 use Rattle.k_agree.proofs.Openings.{opened_cell}
 use Rattle.k_book.specs.Books.{BookRecord, opened}
@@ -24,7 +24,7 @@ use Rattle.k_kernel.specs.Kernels.{opened_kernel}
 use Rattle.k_shared.specs.SharedHeaps.{SharedRecord, opened_shared}
 use Rattle.k_shares.specs.Sharers.{living_of}
 use Rattle.k_space.specs.Objects.{BodyValue, new_body}
-use Rattle.k_locked.proofs.Lists.{each_pushed}
+use Rattle.k_process.proofs.Lists.{each_pushed}
 use Rattle.k_guests.specs.declared.guest.Guest.{Guest}
 use Rattle.k_guests.specs.declared.terms.Terms.{Terms}
 use Rattle.k_guests.specs.Making.{AreGuestsSoFar, AreHeapsSoFar, AreNotes, CanMake, CanMakeGuest, CanMakeShared, HasMadeBook, HaveMadeGuests, IsFirstGuest}

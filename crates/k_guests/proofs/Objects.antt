@@ -20,11 +20,11 @@ use Rattle.k_types.specs.State.{Object, State, opening, register}
 use Rattle.k_types.specs.Steps.{IsLegalHistory, IsPossible, IsRun, run, state_after}
 use Rattle.k_types.specs.Trace.{Trace, segment_of}
 use Rattle.k_types.specs.Updates.{add_share, clear_registers, close, close_scan, count_done, create, end_process, keep_exits, keep_objects, keep_shares, open_scan, set_max, set_phase, set_register, turn_exits, with_object}
-use Rattle.k_base.proofs.Lists.{length-kept}
-use Rattle.k_bounds.specs.Counts.{is_allocation, one_if}
-use Rattle.k_frame.proofs.Effects.{put_length, stored_length}
-use Rattle.k_frame.proofs.Histories.{legal_rest, run_append, state_next}
-use Rattle.k_frame.proofs.Rest.{freeze_rest, kill_rest}
+use Rattle.k_types.proofs.Lists.{length-kept}
+use Rattle.k_laws.specs.Counts.{is_allocation, one_if}
+use Rattle.k_laws.proofs.Effects.{put_length, stored_length}
+use Rattle.k_laws.proofs.Histories.{legal_rest, run_append, state_next}
+use Rattle.k_laws.proofs.Rest.{freeze_rest, kill_rest}
 use Rattle.k_tie.specs.Values.{JournalValue, NoteValue}
 use Rattle.k_agree.specs.Agreement.{Agrees, Shows}
 use Rattle.k_book.specs.Objects.{gone_by, made_by, made_by_reply, objects_after, objects_from, objects_told}

@@ -26,12 +26,12 @@ use Rattle.k_types.specs.Replies.{first_fault, faults}
 use Rattle.k_types.specs.Updates.{count_done, set_register, create, write, add_exit, with_exit, open_scan, set_phase, add_share, keep_objects, keep_exits, keep_shares, close_scan, clear_registers, end_process, turn_exits, close, set_max}
 use Rattle.k_types.specs.Effects.{step, effect, effect_unless, after_operation, after_store, after_put, with_exit_of_store, after_freeze, after_end_of, exit_after, passes_to_kernel, leads_back, after_ended, after_absorbed, after_closing, exit_stays, stays_after_absorb, after_kill}
 use Rattle.k_types.specs.Steps.{IsPossible, IsRun, in_range, run, state_after}
-use Rattle.k_bounds.specs.Counts.{one_if, exit_count}
-use Rattle.k_bounds.proofs.Counting.{total_turned, total_fewer, option_count}
-use Rattle.k_bounds.proofs.ExitCounts.{weight, writes_to}
-use Rattle.k_frame.proofs.Histories.{legal_rest, run_append, state_next}
-use Rattle.k_frame.proofs.Tails.{local_touches}
-use Rattle.k_base.proofs.Sums.{one_counts, sum_both, sum_same, total_push}
+use Rattle.k_laws.specs.Counts.{one_if, exit_count}
+use Rattle.k_laws.proofs.Counting.{total_turned, total_fewer, option_count}
+use Rattle.k_laws.proofs.ExitCounts.{weight, writes_to}
+use Rattle.k_laws.proofs.Histories.{legal_rest, run_append, state_next}
+use Rattle.k_laws.proofs.Tails.{local_touches}
+use Rattle.k_types.proofs.Sums.{one_counts, sum_both, sum_same, total_push}
 use Rattle.k_shares.specs.Sharers.{living_of}
 use Rattle.k_tie.specs.Values.{JournalValue, NoteValue}
 use Rattle.k_agree.specs.Agreement.{Agrees, BookAgrees}

@@ -11,15 +11,15 @@ use Rattle.k_types.specs.State.{State}
 use Rattle.k_types.specs.Steps.{state_after}
 use Rattle.k_types.specs.Trace.{Trace, process_count}
 use Rattle.k_types.specs.TraceRules.{AreLimits}
-use Rattle.k_base.specs.Distinct.{AreDistinctNames}
-use Rattle.k_base.proofs.Sums.{sum_same}
-use Rattle.k_bounds.specs.Counts.{exit_count}
+use Rattle.k_types.specs.Distinct.{AreDistinctNames}
+use Rattle.k_types.proofs.Sums.{sum_same}
+use Rattle.k_laws.specs.Counts.{exit_count}
 use Rattle.k_tie.specs.Values.{JournalValue, NoteValue}
 use Rattle.k_agree.specs.Agreement.{Agrees, BookAgrees}
 use Rattle.k_agree.specs.Meeting.{Fits}
 use Rattle.k_agree.proofs.AtTheEnd.{book_sound}
 use Rattle.k_agree.proofs.Meetings.{meeting}
-use Rattle.k_locked.proofs.CanDo.{exits_many}
+use Rattle.k_process.proofs.CanDo.{exits_many}
 use Rattle.k_shares.specs.Sharers.{living_of}
 use Rattle.k_guests.specs.Reserve.{kept_for}
 use Rattle.k_guests.proofs.Reserve.{one_fewer}

@@ -6,7 +6,7 @@ use Rattle.k_types.specs.State.{Object}
 use Rattle.k_cell.specs.Holdings.{CanNarrowTo, HoldingsValue, living_in}
 use Rattle.k_heap.specs.Heaps.{has_ended_in, own_segment}
 use Rattle.k_shared.specs.SharedHeaps.{SharedRecord}
-use Rattle.k_locked.specs.Keeping.{is_absorbed_in}
+use Rattle.k_process.specs.Keeping.{is_absorbed_in}
 use Rattle.k_guests.specs.declared.guest.Guest.{Guest}
 use Rattle.k_guests.specs.Growing.{CanGrowGuest, CanGrowHeap, CanNarrowGuest, CanNarrowHeap, FitsIn, HasObjects, HeapFitsIn, HeapHasObjects, OfEach, OfFirst, guest_with_objects, heap_with_objects, kernel_with_objects, with_object_room}
 use Rattle.k_guests.specs.Serving.{HasSegment}

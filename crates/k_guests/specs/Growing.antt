@@ -4,7 +4,7 @@ use Rattle.k_book.specs.Books.{BookRecord}
 use Rattle.k_cell.specs.Holdings.{CanGrowTo, CanNarrowTo, HoldingsValue, living_in}
 use Rattle.k_heap.specs.Heaps.{has_ended_in, own_segment}
 use Rattle.k_shared.specs.SharedHeaps.{SharedRecord}
-use Rattle.k_locked.specs.Keeping.{is_absorbed_in}
+use Rattle.k_process.specs.Keeping.{is_absorbed_in}
 use Rattle.k_guests.specs.declared.growing.GuestRoom.{GuestRoom}
 use Rattle.k_guests.specs.declared.growing.Larger.{Larger}
 use Rattle.k_guests.specs.declared.guest.Guest.{Guest}

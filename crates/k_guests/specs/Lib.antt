@@ -3,6 +3,6 @@ pub mod Making
 pub mod Reserve
 pub mod Enough
 pub mod Growing
-pub use Rattle.k_locked.specs.Keeping
-pub use Rattle.k_locked.specs as k_locked
+pub use Rattle.k_process.specs.Keeping
+pub use Rattle.k_process.specs as k_process
 pub use Rattle.k_book.specs.Objects

@@ -10,7 +10,7 @@ use Rattle.k_types.specs.Names.{among}
 use Rattle.k_types.specs.Owners.{user}
 use Rattle.k_types.specs.State.{State}
 use Rattle.k_types.specs.Trace.{Trace, process_count}
-use Rattle.k_bounds.specs.Counts.{exit_count}
+use Rattle.k_laws.specs.Counts.{exit_count}
 use Rattle.k_shares.specs.Sharers.{living_of}
 
 -- the exit items of the kernel's heap, and so many for each process that lives

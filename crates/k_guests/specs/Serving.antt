@@ -17,8 +17,8 @@ use Rattle.k_heap.specs.Heaps.{has_ended_in, own_segment}
 use Rattle.k_shared.specs.SharedHeaps.{SharedRecord}
 use Rattle.k_space.specs.Objects.{BodyValue, new_body}
 use Rattle.k_trace.specs.Named.{DeclaredNames}
-use Rattle.k_locked.specs.Standing.{BookStands}
-use Rattle.k_locked.specs.Keeping.{is_absorbed_in}
+use Rattle.k_process.specs.Standing.{BookStands}
+use Rattle.k_process.specs.Keeping.{is_absorbed_in}
 use Rattle.k_guests.specs.declared.guest.Guest.{Guest}
 use Rattle.k_guests.specs.declared.rooms.Rooms.{Rooms}
 use Rattle.k_guests.specs.declared.terms.Terms.{Terms}

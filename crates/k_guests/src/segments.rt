@@ -1,8 +1,7 @@
 //! More objects for the segments of a host, which can be taken back.
 ghost use Rattle.std.specs.Prelude.{◌≡◌, ◌+◌, ◌<◌, ◌≤◌, ◌^◌, ℕ, not, OnErr, OnOk, length, map};
-ghost use Rattle.k_locked.specs.Keeping.{is_absorbed_in};
-ghost use Rattle.k_guests.specs.Growing.{FitsIn, HasObjects, HeapFitsIn, HeapHasObjects, OfEach, OfFirst, changed_first, guest_with_objects, heap_with_objects, kernel_with_objects};
-ghost use Rattle.k_guests.specs.Growing.{CanGrowGuest, CanGrowHeap, CanNarrowGuest, CanNarrowHeap, CanNarrowObjects, HaveFit, HaveGrownObjects, HaveObjects};
+ghost use Rattle.k_process.specs.Keeping.{is_absorbed_in};
+ghost use Rattle.k_guests.specs.Growing.{FitsIn, HasObjects, HeapFitsIn, HeapHasObjects, OfEach, OfFirst, changed_first, guest_with_objects, heap_with_objects, kernel_with_objects, CanGrowGuest, CanGrowHeap, CanNarrowGuest, CanNarrowHeap, CanNarrowObjects, HaveFit, HaveGrownObjects, HaveObjects};
 
 use crate::guest::Guest;
 use k_kernel::KernelCell;

@@ -11,7 +11,7 @@ use Rattle.k_types.specs.Cells.{ProcessPart}
 use Rattle.k_types.specs.Names.{name_of}
 use Rattle.k_types.specs.Numbers.{numbers_below}
 use Rattle.k_types.specs.Trace.{trace_of}
-use Rattle.k_cell.specs.k_frame.PartUpdates.{process_with_register}
+use Rattle.k_cell.specs.k_laws.PartUpdates.{process_with_register}
 use Rattle.k_cell.specs.CellChanges.{ended_process}
 use Rattle.k_cell.specs.k_space.Objects.{BodyValue}
 use Rattle.k_cell.specs.k_tie.Values.{NoteValue}

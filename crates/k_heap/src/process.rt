@@ -1,7 +1,7 @@
 //! What the cell of a process changes of the process's own.
 ghost use Rattle.std.specs.Prelude.{◌≡◌, ◌<◌, ◌+◌, ◌-◌, ◌^◌, ◌∷◌, [], ◌++◌, length, option_map, OnErr, OnOk};
 ghost use Rattle.k_types.specs.Names.{name_of};
-ghost use Rattle.k_cell.specs.k_frame.PartUpdates.{done_in};
+ghost use Rattle.k_cell.specs.k_laws.PartUpdates.{done_in};
 ghost use Rattle.k_cell.specs.GivingAway.{with_one_done};
 ghost use Rattle.k_heap.specs.Heaps.{with_process_ended, with_register_in};
 

@@ -18,7 +18,7 @@ use Rattle.k_types.specs.Replies.{reply_to}
 use Rattle.k_types.specs.Cells.{Cell, cells_touched}
 use Rattle.k_types.specs.Steps.{in_range, is_orphan, no_orphan, waits_for_orphans, MayBeDone, MayEnd, MayBeAbsorbed, MayClose, IsPossible, run, done_by}
 use Rattle.k_types.specs.Complete.{IsPrefixOf}
-use Rattle.k_frame.proofs.Histories.{legal_append, legal_rest, done_append}
+use Rattle.k_laws.proofs.Histories.{legal_append, legal_rest, done_append}
 use Rattle.k_reports.specs.Begun.{IsBegun}
 use Rattle.k_history.proofs.Codes.{same_op, same_reply}
 

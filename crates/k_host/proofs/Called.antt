@@ -10,9 +10,9 @@ use Rattle.k_types.specs.declared.names.SharedId.{SharedId}
 use Rattle.k_types.specs.declared.op.Op.{Op}
 use Rattle.k_book.specs.Books.{BookRecord}
 use Rattle.k_cell.specs.Holdings.{HoldingsValue}
-use Rattle.k_moves.specs.Shown.{idle_part}
+use Rattle.k_agree.specs.Shown.{idle_part}
 use Rattle.k_shared.specs.SharedHeaps.{SharedRecord}
-use Rattle.k_squares.specs.Locals.{is_local_in}
+use Rattle.k_laws.specs.Locals.{is_local_in}
 use Rattle.k_ends.specs.HostError.{HostError}
 use Rattle.k_ends.specs.k_guests.declared.guest.Guest.{Guest}
 use Rattle.k_host.specs.Calls.{HasAbsorbedIn, HasChanged, HasDoneInsideIn, HasLeftOutside}

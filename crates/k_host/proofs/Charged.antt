@@ -13,11 +13,11 @@ use Rattle.k_types.specs.Steps.{IsLegalHistory, state_after}
 use Rattle.k_types.specs.Totals.{total}
 use Rattle.k_types.specs.Trace.{Trace, process_count, segment_count}
 use Rattle.k_types.specs.TraceRules.{KeepsRules}
-use Rattle.k_base.proofs.Sums.{sum_same, zeros}
+use Rattle.k_types.proofs.Sums.{sum_same, zeros}
 use Rattle.k_laws.proofs.SoundSteps.{legal_sound}
-use Rattle.k_changes.proofs.EndsOnBook.{charge_told}
-use Rattle.k_changes.proofs.OnBook.{owner_told}
-use Rattle.k_changes.specs.BookChanges.{owner_in, shared_by}
+use Rattle.k_laws.proofs.EndsOnBook.{charge_told}
+use Rattle.k_laws.proofs.OnBook.{owner_told}
+use Rattle.k_laws.specs.BookChanges.{owner_in, shared_by}
 use Rattle.k_agree.specs.Agreement.{BookShows, Shows}
 use Rattle.k_agree.specs.GivingOnTheBook.{charged}
 use Rattle.k_agree.specs.Meeting.{Fits, ShowsTheJournal}
@@ -33,7 +33,7 @@ use Rattle.k_host.specs.Asked.{charge_told as told_charge}
 use Rattle.k_host.specs.Calls.{HasMetTheJournal}
 use Rattle.k_host.specs.Hosts.{HostServes, HostValue}
 use Rattle.k_host.proofs.InsideCharges.{inside_is_free}
-use Rattle.k_base.proofs.Totals.{total_more, total_rises}
+use Rattle.k_types.proofs.Totals.{total_more, total_rises}
 
 -- what the process is charged for the shared heap of that number, by the book
 abbrev pub for_heap : BookValue → ℕ → ℕ → ℕ

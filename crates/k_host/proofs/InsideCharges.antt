@@ -15,7 +15,7 @@ use Rattle.k_types.specs.State.{State, opening}
 use Rattle.k_types.specs.Steps.{IsLegalHistory, IsPossible, IsRun, run, state_after}
 use Rattle.k_types.specs.Trace.{Trace}
 use Rattle.k_types.specs.TraceRules.{AreLimits, ends_a_process}
-use Rattle.k_frame.proofs.Histories.{legal_rest, run_append}
+use Rattle.k_laws.proofs.Histories.{legal_rest, run_append}
 use Rattle.k_laws.specs.Charges.{bytes_added, bytes_charged, charged_unless}
 use Rattle.k_laws.proofs.Laws.{operations_charge_their_process-charged}
 use Rattle.k_laws.proofs.SoundSteps.{legal_sound, run_sound}

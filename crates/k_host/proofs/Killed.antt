@@ -11,13 +11,13 @@ use Rattle.k_types.specs.Agree.{book_shown_by}
 use Rattle.k_types.specs.Limits.{is_above}
 use Rattle.k_types.specs.Steps.{in_range}
 use Rattle.k_types.specs.Trace.{process_count}
-use Rattle.k_base.proofs.Ancestors.{above_another}
+use Rattle.k_types.proofs.Ancestors.{above_another}
 use Rattle.k_book.specs.Books.{BookRecord}
 use Rattle.k_cell.specs.Holdings.{HoldingsValue}
-use Rattle.k_moves.proofs.Killing.{ends_by}
-use Rattle.k_moves.specs.Shown.{idle_part}
+use Rattle.k_agree.proofs.Killing.{ends_by}
+use Rattle.k_agree.specs.Shown.{idle_part}
 use Rattle.k_shared.specs.SharedHeaps.{SharedRecord}
-use Rattle.k_squares.specs.Locals.{is_local_in}
+use Rattle.k_laws.specs.Locals.{is_local_in}
 use Rattle.k_ends.specs.k_guests.declared.guest.Guest.{Guest}
 use Rattle.k_ends.specs.k_guests.Serving.{Basis, BookServes, GuestServes, HasTailRoom, KernelServes}
 use Rattle.k_host.proofs.Hosts.{few_set, none_unpublished}
@@ -32,7 +32,7 @@ use Rattle.k_host.specs.Calls.{HasOperatedIn}
 use Rattle.k_host.specs.Hosts.{HostServes}
 use Rattle.k_host.specs.Killing.{AreTwoAt, HasKilledAmong, killed_among}
 use Rattle.k_host.specs.Refusals.{CanNotOperateIn, MayRefuse}
-use Rattle.k_base.proofs.Lists.{slice_get-set_other, get_there}
+use Rattle.k_types.proofs.Lists.{slice_get-set_other, get_there}
 
 below : (a b : ℕ) → nat_lt a b ≡ true → a < b
 below a b t = grind (arith, nat_tests)

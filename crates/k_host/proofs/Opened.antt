@@ -9,7 +9,7 @@ use Rattle.k_types.specs.Trace.{operations_of, trace_of}
 use Rattle.k_types.specs.TraceRules.{EndsWithExit, KeepsRules, is_of_version, is_spelled}
 use Rattle.k_types.specs.Steps.{in_range}
 use Rattle.std.specs.List.{list_all}
-use Rattle.k_frame.proofs.Sizes.{get_or-same}
+use Rattle.k_laws.proofs.Sizes.{get_or-same}
 use Rattle.k_words.specs.Words.{Text}
 use Rattle.k_trace.specs.declared.trace.Trace.{Trace as ReadTrace}
 use Rattle.k_trace.specs.Meaning.{meaning_of}

@@ -7,7 +7,7 @@ use Rattle.k_types.specs.Effects.{step}
 use Rattle.k_types.specs.State.{opening}
 use Rattle.k_types.specs.Steps.{IsPossible, state_after}
 use Rattle.k_types.specs.Trace.{trace_of}
-use Rattle.k_frame.proofs.Histories.{state_next}
+use Rattle.k_laws.proofs.Histories.{state_next}
 use Rattle.k_state.specs.Machines.{Machine}
 use Rattle.k_state.specs.Rooms.{HasRoom}
 use Rattle.k_solo.proofs.Rooms.{history_room}

@@ -5,7 +5,7 @@ use Rattle.k_types.specs.Agree.{BookValue}
 use Rattle.k_types.specs.Owners.{object_bytes}
 use Rattle.k_types.specs.Totals.{total}
 use Rattle.k_types.specs.Trace.{Trace}
-use Rattle.k_frame.specs.PartUpdates.{done_in, held_in}
+use Rattle.k_laws.specs.PartUpdates.{done_in, held_in}
 use Rattle.k_agree.specs.GivingOnTheBook.{charged}
 use Rattle.k_heap.specs.Heaps.{has_ended_in}
 use Rattle.k_ends.specs.k_guests.declared.guest.Guest.{Guest}

@@ -9,9 +9,9 @@ use Rattle.k_types.specs.declared.op.Op.TheVariants.{Kill}
 use Rattle.k_agree.specs.Meeting.{Fits, met_note}
 use Rattle.k_book.specs.Books.{BookRecord}
 use Rattle.k_cell.specs.Holdings.{HoldingsValue}
-use Rattle.k_moves.specs.Shown.{idle_part}
+use Rattle.k_agree.specs.Shown.{idle_part}
 use Rattle.k_shared.specs.SharedHeaps.{SharedRecord}
-use Rattle.k_squares.specs.Locals.{is_local_in}
+use Rattle.k_laws.specs.Locals.{is_local_in}
 use Rattle.k_ends.specs.k_guests.declared.guest.Guest.{Guest}
 use Rattle.k_ends.specs.Collecting.{HasAbsorbedNow, HasBegun, HasBegunKernel, HasEnded, HasExitedNow, HasMarkedGuest, HasMarkedKernel, HasSettled, HasSettledKernel, KernelHasEnded}
 use Rattle.k_ends.specs.Killing.{HasKilledNow}

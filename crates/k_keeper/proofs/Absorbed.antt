@@ -5,9 +5,9 @@ use Rattle.std.specs.Prelude.{IfOk, MatchOption}
 use Rattle.k_types.specs.declared.event.Event.{Event}
 use Rattle.k_types.specs.declared.event.Event.TheVariants.{Absorbed}
 use Rattle.k_types.specs.declared.names.SharedId.{SharedId}
-use Rattle.k_base.proofs.Sums.{total_append}
-use Rattle.k_bounds.specs.Counts.{absorbed_count, is_absorption, one_if}
-use Rattle.k_bounds.proofs.Laws.{heaps_are_absorbed_once-absorbed}
+use Rattle.k_types.proofs.Sums.{total_append}
+use Rattle.k_laws.specs.Counts.{absorbed_count, is_absorption, one_if}
+use Rattle.k_laws.proofs.BoundsLaws.{heaps_are_absorbed_once-absorbed}
 use Rattle.k_host.proofs.AbsorbKept.{heap_known}
 use Rattle.k_shared.specs.SharedHeaps.{SharedRecord}
 use Rattle.k_shares.specs.Sharers.{lowest_orphan}
@@ -21,7 +21,7 @@ use Rattle.k_keeper.specs.Keeping.{IsKept, left_after, needed_by_the_kernel}
 use Rattle.k_keeper.specs.Kept.{HaveAbsorbed}
 use Rattle.k_keeper.proofs.Kept.{kept_absorbed}
 use Rattle.k_keeper.proofs.Refused.{same_kept}
-use Rattle.k_base.proofs.Lists.{get_there}
+use Rattle.k_types.proofs.Lists.{get_there}
 
 -- nothing is absorbed yet
 pub absorbed_none : (h : HostValue) (left : ℕ) → HaveAbsorbed h h left left

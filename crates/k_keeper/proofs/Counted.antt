@@ -20,11 +20,11 @@ use Rattle.k_types.specs.Steps.{IsLegalHistory, IsPossible, run, state_after}
 use Rattle.k_types.specs.Trace.{Trace, segment_count}
 use Rattle.k_types.specs.Updates.{keep_exits, set_phase}
 use Rattle.k_agree.specs.Agreement.{Agrees}
-use Rattle.k_bounds.specs.Counts.{is_allocation}
+use Rattle.k_laws.specs.Counts.{is_allocation}
 use Rattle.k_host.specs.k_collect.Settling.{IsTheEnd}
-use Rattle.k_frame.proofs.Histories.{legal_front, legal_rest, run_append}
-use Rattle.k_moves.specs.Shown.{idle_part}
-use Rattle.k_squares.specs.Locals.{is_local_in}
+use Rattle.k_laws.proofs.Histories.{legal_front, legal_rest, run_append}
+use Rattle.k_agree.specs.Shown.{idle_part}
+use Rattle.k_laws.specs.Locals.{is_local_in}
 use Rattle.k_tie.specs.Values.{NoteValue}
 use Rattle.k_host.specs.k_guests.declared.guest.Guest.{Guest}
 use Rattle.k_host.specs.k_guests.Objects.{gone_by, made_by, objects_after}

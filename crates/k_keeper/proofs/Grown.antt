@@ -3,8 +3,8 @@ use Rattle.std.proofs.Common.{◌≡◌, ◌≤◌, ◌+◌, ◌-◌, ◌*◌, �
 use Rattle.std.proofs.Math.Nat.{mul-le-mul_left}
 use Rattle.k_types.specs.Totals.{total}
 use Rattle.k_types.specs.Trace.{segment_count}
-use Rattle.k_base.proofs.Lists.{same_value}
-use Rattle.k_base.proofs.Sums.{total_map}
+use Rattle.k_types.proofs.Lists.{same_value}
+use Rattle.k_types.proofs.Sums.{total_map}
 use Rattle.k_host.specs.Growing.{HasGrown, with_rooms}
 use Rattle.k_host.specs.Hosts.{HostServes, HostValue}
 use Rattle.k_host.specs.k_guests.declared.guest.Guest.{Guest}

@@ -27,7 +27,7 @@ use Rattle.k_keeper.specs.Kept.{IsAlive}
 use Rattle.k_keeper.proofs.Insides.{idle_inside}
 use Rattle.k_keeper.proofs.Spelled.{end_spelled, settled_spelled, spelled_behind, spelled_both, spelled_longer, spelled_longer_by_two}
 use Rattle.k_keeper.proofs.Sums.{each_set, one_of, total_at}
-use Rattle.k_base.proofs.Lists.{slice_get-set_other, some_one}
+use Rattle.k_types.proofs.Lists.{slice_get-set_other, some_one}
 
 -- what a process owes
 bit_low : (b : Bool) → (if b then 0 else 1) ≤ 1

@@ -11,7 +11,7 @@ use Rattle.k_types.specs.Names.{name_eq}
 use Rattle.k_types.specs.State.{Object, has}
 use Rattle.k_types.specs.Steps.{IsLegalHistory, state_after}
 use Rattle.k_types.specs.Trace.{Trace}
-use Rattle.k_base.proofs.NameTests.{name_eq-true, name_eq_refl}
+use Rattle.k_types.proofs.NameTests.{name_eq-true, name_eq_refl}
 use Rattle.k_host.specs.Calls.{HasCollectedIn, HasCollectedKernelIn}
 use Rattle.k_host.specs.HostError.{HostError}
 use Rattle.k_host.specs.Hosts.{HostServes, HostValue}

@@ -9,7 +9,7 @@ use Rattle.std.proofs.lemmas.List.Concat.{flat_map-cons}
 use Rattle.std.proofs.lemmas.Option.{get_or_from_slice_get, slice_get_within}
 use Rattle.k_types.specs.declared.event.Event.{Event}
 use Rattle.k_types.specs.declared.names.Pid.{Pid}
-use Rattle.k_base.proofs.Lists.{get_there, slice_get-set_other, some_one}
+use Rattle.k_types.proofs.Lists.{get_there, slice_get-set_other, some_one}
 use Rattle.k_book.specs.Books.{BookRecord}
 use Rattle.k_host.specs.HostError.{HostError}
 use Rattle.k_host.specs.HostError.TheVariants.{Unknown}

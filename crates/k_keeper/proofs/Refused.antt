@@ -8,7 +8,7 @@ use Rattle.k_types.specs.declared.names.Pid.{Pid}
 use Rattle.k_types.specs.declared.names.SharedId.{SharedId}
 use Rattle.k_types.specs.declared.op.Op.{Op}
 use Rattle.k_types.specs.TraceRules.{is_spelled}
-use Rattle.k_bounds.specs.Counts.{is_allocation}
+use Rattle.k_laws.specs.Counts.{is_allocation}
 use Rattle.k_host.specs.k_guests.declared.guest.Guest.{Guest}
 use Rattle.k_host.specs.HostError.{HostError}
 use Rattle.k_host.specs.HostError.TheVariants.{Ended, Objects, Reserved, Unknown}

@@ -2,8 +2,8 @@
 use Rattle.std.proofs.Common.{◌≡◌, ◌≤◌, ◌+◌, ℕ, zero, suc, refl, sym, ap, ◌∙◌, subst, List, [], ◌∷◌, length, get_or, set, Some, slice_get, arith, zero-le}
 use Rattle.std.proofs.lemmas.Option.{slice_get-get_or, slice_get_within}
 use Rattle.k_types.specs.Totals.{total}
-use Rattle.k_base.proofs.Sums.{total_set}
-use Rattle.k_base.proofs.Lists.{same_value}
+use Rattle.k_types.proofs.Sums.{total_set}
+use Rattle.k_types.proofs.Lists.{same_value}
 
 -- an item that is written over another
 pub total_at : {A : Type 0} (f : A → ℕ) (xs : List A) (n : ℕ) (x y : A) → slice_get xs n ≡ Some x → total f (set xs n y) + f x ≡ total f xs + f y

@@ -9,7 +9,7 @@ use Rattle.k_types.specs.declared.op.Op.{Op}
 use Rattle.k_types.specs.TraceRules.{is_spelled}
 use Rattle.k_shares.specs.Sharers.{lowest_orphan}
 use Rattle.k_words.specs.Words.{Text}
-use Rattle.k_bounds.specs.Counts.{is_allocation}
+use Rattle.k_laws.specs.Counts.{is_allocation}
 use Rattle.k_host.specs.k_guests.declared.guest.Guest.{Guest}
 use Rattle.k_host.specs.k_guests.declared.rooms.Rooms.{Rooms}
 use Rattle.k_host.specs.HostError.{HostError}

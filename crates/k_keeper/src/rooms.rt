@@ -1,6 +1,6 @@
 //! How many events each call asks for and takes.
 ghost use Rattle.std.specs.Prelude.{◌≡◌, ◌+◌, ◌<◌, ◌≤◌, ◌^◌, ◌↔◌, IfErr, IsTrue, OnOk, length};
-ghost use Rattle.k_bounds.specs.Counts.{is_allocation};
+ghost use Rattle.k_laws.specs.Counts.{is_allocation};
 ghost use Rattle.k_host.specs.k_guests.Objects.{gone_by, made_by};
 ghost use Rattle.k_host.specs.CallsRefusals.{Lacks};
 ghost use Rattle.k_host.specs.HostError.TheVariants.{Objects};

@@ -9,7 +9,7 @@ use Rattle.k_cell.specs.declared.rooms.HoldingRooms.{HoldingRooms}
 use Rattle.k_cell.specs.Changes.{with_body}
 use Rattle.k_cell.specs.Holdings.{HasObjectRoom, fresh_cell, fresh_holdings}
 use Rattle.k_kernel.specs.Kernels.{opened_kernel, segments_of}
-use Rattle.k_base.proofs.Lists.{set_below}
+use Rattle.k_types.proofs.Lists.{set_below}
 
 -- what is listed for the number 0
 first_listed : (f : ℕ → Option ℕ) (n : ℕ) → 0 < n → get_or (map f (numbers_below n)) 0 None ≡ f 0

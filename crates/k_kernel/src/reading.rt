@@ -5,7 +5,7 @@ ghost use Rattle.k_types.specs.Names.{directory, name_among, name_of};
 ghost use Rattle.k_types.specs.Owners.{object_bytes};
 ghost use Rattle.k_types.specs.State.{has};
 ghost use Rattle.k_types.specs.Totals.{total};
-ghost use Rattle.k_base.specs.Distinct.{AreDistinctNames};
+ghost use Rattle.k_types.specs.Distinct.{AreDistinctNames};
 ghost use Rattle.k_cell.specs.k_space.Objects.{content_of};
 ghost use Rattle.k_cell.specs.Holdings.{HasObjectRoom};
 ghost use Rattle.k_cell.specs.Looks.{field_among, field_count_among, type_among};

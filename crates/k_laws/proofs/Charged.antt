@@ -1,42 +1,42 @@
 -- What each process is charged after an operation.
 use Rattle.std.proofs.Common.{◌≡◌, ℕ, ◌+◌, ◌*◌, ◌<◌, ◌==◌, not, Bool, true, false, cond, refl, sym, ap, ap₂, ◌∙◌, List, [], ◌∷◌, ◌++◌, filter, Option, Some, None, arith, IsFalse}
 use Rattle.std.proofs.lemmas.Bool.{false≢true, not-false}
-use Rattle.k_frame.specs.k_types.declared.names.Name.{Name}
-use Rattle.k_frame.specs.k_types.declared.names.Pid.{Pid}
-use Rattle.k_frame.specs.k_types.declared.names.TypeId.{TypeId}
-use Rattle.k_frame.specs.k_types.declared.names.Heap.{Heap}
-use Rattle.k_frame.specs.k_types.declared.names.Heap.TheVariants.{Kernel, Shared}
-use Rattle.k_frame.specs.k_types.declared.names.Phase.{Phase}
-use Rattle.k_frame.specs.k_types.declared.names.Phase.TheVariants.{Unmade, Populating, Frozen}
-use Rattle.k_frame.specs.k_types.declared.op.Op.{Op}
-use Rattle.k_frame.specs.k_types.declared.op.Op.TheVariants.{New, KNew, SNew, Store, Put, Share, Freeze, Attach, Exit, Kill}
-use Rattle.k_frame.specs.k_types.declared.event.Fault.{Fault}
-use Rattle.k_frame.specs.k_types.declared.event.Fault.TheVariants.{Segv, NotPopulating, Taken}
-use Rattle.k_frame.specs.k_types.declared.event.Reply.{Reply}
-use Rattle.k_frame.specs.k_types.declared.event.Event.TheVariants.{Done}
-use Rattle.k_frame.specs.k_types.Names.{heap_eq, among}
-use Rattle.k_frame.specs.k_types.Trace.{Trace, process_count, limit_of, kinds_of, size_of_type}
-use Rattle.k_frame.specs.k_types.TraceRules.{AreLimits, ends_a_process, is_resize}
-use Rattle.k_frame.specs.k_types.State.{State, Content, Refers, Holds, Sharing, has_share, register}
-use Rattle.k_frame.specs.k_types.Owners.{owner_of, user, shared, bytes_by, bytes_of, charge_of, charge_by, phase_of, is_absorbed}
-use Rattle.k_frame.specs.k_types.Limits.{limits_in, with_maxima, use_of, use_by, path_of}
-use Rattle.k_frame.specs.k_types.Updates.{create, write, add_exit, set_register, open_scan, set_phase, add_share, set_max, count_done}
-use Rattle.k_frame.specs.k_types.Replies.{first_fault, faults, fault_where, at_base, is_populating, is_unmade}
-use Rattle.k_frame.specs.k_types.Effects.{step, effect, effect_unless, after_operation, after_store, after_put, after_freeze, with_exit_of_store}
-use Rattle.k_frame.specs.k_types.Steps.{IsPossible}
-use Rattle.k_frame.specs.k_types.Sound.{IsSound}
+use Rattle.k_types.specs.declared.names.Name.{Name}
+use Rattle.k_types.specs.declared.names.Pid.{Pid}
+use Rattle.k_types.specs.declared.names.TypeId.{TypeId}
+use Rattle.k_types.specs.declared.names.Heap.{Heap}
+use Rattle.k_types.specs.declared.names.Heap.TheVariants.{Kernel, Shared}
+use Rattle.k_types.specs.declared.names.Phase.{Phase}
+use Rattle.k_types.specs.declared.names.Phase.TheVariants.{Unmade, Populating, Frozen}
+use Rattle.k_types.specs.declared.op.Op.{Op}
+use Rattle.k_types.specs.declared.op.Op.TheVariants.{New, KNew, SNew, Store, Put, Share, Freeze, Attach, Exit, Kill}
+use Rattle.k_types.specs.declared.event.Fault.{Fault}
+use Rattle.k_types.specs.declared.event.Fault.TheVariants.{Segv, NotPopulating, Taken}
+use Rattle.k_types.specs.declared.event.Reply.{Reply}
+use Rattle.k_types.specs.declared.event.Event.TheVariants.{Done}
+use Rattle.k_types.specs.Names.{heap_eq, among}
+use Rattle.k_types.specs.Trace.{Trace, process_count, limit_of, kinds_of, size_of_type}
+use Rattle.k_types.specs.TraceRules.{AreLimits, ends_a_process, is_resize}
+use Rattle.k_types.specs.State.{State, Content, Refers, Holds, Sharing, has_share, register}
+use Rattle.k_types.specs.Owners.{owner_of, user, shared, bytes_by, bytes_of, charge_of, charge_by, phase_of, is_absorbed}
+use Rattle.k_types.specs.Limits.{limits_in, with_maxima, use_of, use_by, path_of}
+use Rattle.k_types.specs.Updates.{create, write, add_exit, set_register, open_scan, set_phase, add_share, set_max, count_done}
+use Rattle.k_types.specs.Replies.{first_fault, faults, fault_where, at_base, is_populating, is_unmade}
+use Rattle.k_types.specs.Effects.{step, effect, effect_unless, after_operation, after_store, after_put, after_freeze, with_exit_of_store}
+use Rattle.k_types.specs.Steps.{IsPossible}
+use Rattle.k_types.specs.Sound.{IsSound}
 use Rattle.k_laws.specs.Charges.{bytes_charged, bytes_added, charged_unless}
-use Rattle.k_frame.proofs.Sums.{bit, sum_same}
-use Rattle.k_frame.proofs.Bytes.{bytes-written}
-use Rattle.k_frame.proofs.FrameSteps.{none_on}
-use Rattle.k_frame.proofs.OwnerOf.{owner_user, owner_kernel, owner_shared}
+use Rattle.k_types.proofs.Sums.{bit, sum_same}
+use Rattle.k_laws.proofs.Bytes.{bytes-written}
+use Rattle.k_laws.proofs.FrameSteps.{none_on}
+use Rattle.k_laws.proofs.OwnerOf.{owner_user, owner_kernel, owner_shared}
 use Rattle.k_laws.proofs.Raised.{charge_added, charge_shared_added, charge_sharing}
 use Rattle.k_laws.proofs.SoundNew.{bytes_after}
 use Rattle.k_laws.proofs.SoundShare.{owner_kept}
 use Rattle.k_laws.proofs.SoundSharing.{bytes_none}
 use Rattle.k_laws.proofs.SoundEffects.{is_populating_by, is_unmade_so}
 use Rattle.k_laws.proofs.UsesRaised.{uses_raised}
-use Rattle.k_frame.proofs.Constant.{step_maxima}
+use Rattle.k_laws.proofs.Constant.{step_maxima}
 
 -- the same bytes in all user heaps and shared heaps are the same charges
 pub charge_same : (b c : Heap → ℕ) (ended : List ℕ) (shares : List Sharing) → ((q : ℕ) → b (user q) ≡ c (user q)) → ((s : ℕ) → b (shared s) ≡ c (shared s)) → (q : ℕ) →

@@ -2,12 +2,12 @@
 use Rattle.std.proofs.Common.{◌≡◌, ℕ, zero, suc, ◌<◌, ◌≤◌, ◌⊎◌, ◌&&◌, ◌||◌, Bool, true, refl, sym, ap, ◌∙◌, inl, inr, List, [], ◌∷◌, length, filter, arith, zero-le}
 use Rattle.std.specs.List.{list_any, AllByRecursion}
 use Rattle.std.proofs.lemmas.Bool.{and_parts, and_from, or_left, or_right}
-use Rattle.k_frame.specs.k_types.declared.names.Name.{Name}
-use Rattle.k_frame.specs.k_types.State.{Object, has, refers, refers_in}
-use Rattle.k_frame.specs.k_types.Reach.{next_fold, closure}
-use Rattle.k_frame.proofs.NameTests.{name_eq_refl}
-use Rattle.k_frame.proofs.Objects.{has-kept, refers_in-kept, referred}
-use Rattle.k_frame.proofs.Lists.{length-kept}
+use Rattle.k_types.specs.declared.names.Name.{Name}
+use Rattle.k_types.specs.State.{Object, has, refers, refers_in}
+use Rattle.k_types.specs.Reach.{next_fold, closure}
+use Rattle.k_types.proofs.NameTests.{name_eq_refl}
+use Rattle.k_types.proofs.Objects.{has-kept, refers_in-kept, referred}
+use Rattle.k_types.proofs.Lists.{length-kept}
 
 kept_or_more_step : {A : Type 0} (p q : A → Bool) (x : A) (xs : List A) → (p x ≡ true → q x ≡ true) →
     (filter p xs ≡ filter q xs) ⊎ (length (filter p xs) < length (filter q xs)) →

@@ -2,40 +2,40 @@
 use Rattle.std.proofs.Common.{◌≡◌, ◌≢◌, ℕ, ◌+◌, ◌*◌, ◌<◌, ◌≤◌, ◌==◌, ◌||◌, ◌&&◌, not, Bool, true, false, cond, refl, sym, ap, ap₂, ◌∙◌, [], ◌∷◌, ◌++◌, filter, length, replicate, get_or-set_same, get_or-set_other, Option, Some, None, subst, ltb-true, arith, ne_eqb, eq-eqb, eqb-true, inl, inr, IsTrue, IsFalse, le_refl, le_of_eq}
 use Rattle.std.proofs.lemmas.Bool.{false≢true, cases_Bool, cases_eq, or_left, or_right, not_from_false, and_right, and_parts, not-true}
 use Rattle.std.proofs.lemmas.List.Folds.{list_any-append}
-use Rattle.k_frame.specs.k_types.declared.names.Heap.{Heap}
-use Rattle.k_frame.specs.k_types.declared.names.Pid.{Pid}
-use Rattle.k_frame.specs.k_types.declared.event.Reply.{Reply}
-use Rattle.k_frame.specs.k_types.declared.names.Heap.TheVariants.{Kernel, User}
-use Rattle.k_frame.specs.k_types.declared.op.Op.{Op}
-use Rattle.k_frame.specs.k_types.declared.op.Op.TheVariants.{Exit, Kill}
-use Rattle.k_frame.specs.k_types.declared.event.Fault.{Fault}
-use Rattle.k_frame.specs.k_types.declared.event.Event.{Event}
-use Rattle.k_frame.specs.k_types.declared.event.Event.TheVariants.{Done, Ended, Absorbed as AbsorbedEvent, Closing}
-use Rattle.k_frame.specs.k_types.Names.{heap_eq, among}
-use Rattle.k_frame.specs.k_types.Totals.{total}
-use Rattle.k_frame.specs.k_types.Trace.{Trace, process_count}
-use Rattle.k_frame.specs.k_types.TraceRules.{AreLimits, ends_a_process}
-use Rattle.k_frame.specs.k_types.State.{State, has_share, is_scanned}
-use Rattle.k_frame.specs.k_types.Owners.{owner_of, user, shared, bytes_by, bytes_of, charge_of, object_bytes, phase_of}
-use Rattle.k_frame.specs.k_types.Replies.{first_fault, fault_where, faults, ends_other}
-use Rattle.k_frame.specs.k_types.Limits.{is_above}
-use Rattle.k_frame.specs.k_types.Updates.{count_done, set_phase, open_scan, close, close_scan, keep_objects, keep_exits, keep_shares, clear_registers, end_process, turn_exits}
-use Rattle.k_frame.specs.k_types.Effects.{step, effect, effect_unless, after_operation, after_end_of, after_kill, after_ended, after_absorbed, after_closing, survives, share_stays}
-use Rattle.k_frame.specs.k_types.Steps.{IsPossible, is_live, has_sharer, in_range}
-use Rattle.k_frame.specs.k_types.Sound.{IsSound}
+use Rattle.k_types.specs.declared.names.Heap.{Heap}
+use Rattle.k_types.specs.declared.names.Pid.{Pid}
+use Rattle.k_types.specs.declared.event.Reply.{Reply}
+use Rattle.k_types.specs.declared.names.Heap.TheVariants.{Kernel, User}
+use Rattle.k_types.specs.declared.op.Op.{Op}
+use Rattle.k_types.specs.declared.op.Op.TheVariants.{Exit, Kill}
+use Rattle.k_types.specs.declared.event.Fault.{Fault}
+use Rattle.k_types.specs.declared.event.Event.{Event}
+use Rattle.k_types.specs.declared.event.Event.TheVariants.{Done, Ended, Absorbed as AbsorbedEvent, Closing}
+use Rattle.k_types.specs.Names.{heap_eq, among}
+use Rattle.k_types.specs.Totals.{total}
+use Rattle.k_types.specs.Trace.{Trace, process_count}
+use Rattle.k_types.specs.TraceRules.{AreLimits, ends_a_process}
+use Rattle.k_types.specs.State.{State, has_share, is_scanned}
+use Rattle.k_types.specs.Owners.{owner_of, user, shared, bytes_by, bytes_of, charge_of, object_bytes, phase_of}
+use Rattle.k_types.specs.Replies.{first_fault, fault_where, faults, ends_other}
+use Rattle.k_types.specs.Limits.{is_above}
+use Rattle.k_types.specs.Updates.{count_done, set_phase, open_scan, close, close_scan, keep_objects, keep_exits, keep_shares, clear_registers, end_process, turn_exits}
+use Rattle.k_types.specs.Effects.{step, effect, effect_unless, after_operation, after_end_of, after_kill, after_ended, after_absorbed, after_closing, survives, share_stays}
+use Rattle.k_types.specs.Steps.{IsPossible, is_live, has_sharer, in_range}
+use Rattle.k_types.specs.Sound.{IsSound}
 use Rattle.k_laws.specs.Changes.{MayAbsorb, MayExit}
 use Rattle.k_laws.specs.Charges.{is_done_by, bytes_added}
 use Rattle.k_laws.specs.Termination.{CreditsTheCharge, LeavesTheRest}
-use Rattle.k_frame.proofs.Sums.{bit, sum_same}
-use Rattle.k_frame.proofs.ElsewhereOther.{among-push, owner_ended, owned_agree}
-use Rattle.k_frame.proofs.Kept.{has_share-kept}
+use Rattle.k_types.proofs.Sums.{bit, sum_same}
+use Rattle.k_laws.proofs.ElsewhereOther.{among-push, owner_ended, owned_agree}
+use Rattle.k_laws.proofs.Kept.{has_share-kept}
 use Rattle.k_laws.proofs.SoundAbsorbed.{bytes_fewer, merged_fewer, is_merged}
 use Rattle.k_laws.proofs.SoundCollected.{bytes-kept}
 use Rattle.k_laws.proofs.Uses.{charge_less, charged_less}
 use Rattle.k_laws.proofs.UsesRaised.{uses_raised}
 use Rattle.k_laws.proofs.Charged.{operation_charges}
-use Rattle.k_frame.proofs.Lists.{none_is, filter_stronger}
-use Rattle.k_frame.specs.k_types.Cells.{cells_touched, other_cells}
+use Rattle.k_types.proofs.Lists.{none_is, filter_stronger}
+use Rattle.k_types.specs.Cells.{cells_touched, other_cells}
 use Rattle.std.specs.List.{list_all}
 
 module _ (trace : Trace) (st : State) (p : ℕ) where

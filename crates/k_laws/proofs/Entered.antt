@@ -3,19 +3,19 @@ use Rattle.std.proofs.Common.{◌≡◌, ℕ, ◌+◌, ◌&&◌, ◌||◌, not, 
 use Rattle.std.specs.List.{list_any}
 use Rattle.std.proofs.lemmas.Bool.{or_left, or_right, and_from}
 use Rattle.std.proofs.lemmas.Bool.Decides.{nat_tests}
-use Rattle.k_frame.specs.k_types.declared.names.Name.{Name}
-use Rattle.k_frame.specs.k_types.declared.names.Heap.{Heap}
-use Rattle.k_frame.specs.k_types.Names.{heap_eq, name_eq, leads_to}
-use Rattle.k_frame.specs.k_types.Totals.{total}
-use Rattle.k_frame.specs.k_types.Numbers.{numbers_below}
-use Rattle.k_frame.specs.k_types.Trace.{Trace, process_count}
-use Rattle.k_frame.specs.k_types.State.{State, ExitItem, has_exit, in_registers}
-use Rattle.k_frame.specs.k_types.Owners.{owner_of, user}
-use Rattle.k_frame.specs.k_types.Reach.{is_entered, has_entry}
-use Rattle.k_frame.specs.k_types.Cells.{entries, pins, pins_of}
-use Rattle.k_frame.specs.k_types.Sound.{IsSound}
-use Rattle.k_frame.proofs.NameTests.{name_eq-true, name_eq_refl, heap_eq_refl}
-use Rattle.k_frame.proofs.Sums.{bit}
+use Rattle.k_types.specs.declared.names.Name.{Name}
+use Rattle.k_types.specs.declared.names.Heap.{Heap}
+use Rattle.k_types.specs.Names.{heap_eq, name_eq, leads_to}
+use Rattle.k_types.specs.Totals.{total}
+use Rattle.k_types.specs.Numbers.{numbers_below}
+use Rattle.k_types.specs.Trace.{Trace, process_count}
+use Rattle.k_types.specs.State.{State, ExitItem, has_exit, in_registers}
+use Rattle.k_types.specs.Owners.{owner_of, user}
+use Rattle.k_types.specs.Reach.{is_entered, has_entry}
+use Rattle.k_types.specs.Cells.{entries, pins, pins_of}
+use Rattle.k_types.specs.Sound.{IsSound}
+use Rattle.k_types.proofs.NameTests.{name_eq-true, name_eq_refl, heap_eq_refl}
+use Rattle.k_types.proofs.Sums.{bit}
 
 either_above : (a b : ℕ) → nat_lt 0 (a + b) ≡ (nat_lt 0 a || nat_lt 0 b)
 either_above a b = grind (arith, nat_tests)

@@ -1,22 +1,21 @@
 -- The entries of an object are the heaps with an exit item to it.
 use Rattle.std.proofs.Common.{◌≡◌, ℕ, ◌+◌, ◌*◌, ◌<◌, ◌==◌, ◌&&◌, ◌||◌, Bool, true, false, refl, sym, ap, ap₂, ◌∙◌, List, [], ◌∷◌, map, arith, IsTrue}
 use Rattle.std.proofs.lemmas.Bool.{and_from, or_left, or_right}
-use Rattle.k_frame.specs.k_types.Totals.{total}
-use Rattle.k_frame.specs.k_types.Numbers.{numbers_below}
-use Rattle.k_frame.specs.k_types.declared.names.Name.{Name}
-use Rattle.k_frame.specs.k_types.declared.names.Heap.{Heap}
-use Rattle.k_frame.specs.k_types.declared.names.Heap.TheVariants.{Kernel, User, Shared}
-use Rattle.k_frame.specs.k_types.Names.{name_eq, heap_eq}
-use Rattle.k_frame.specs.k_types.Trace.{Trace, process_count, IsHeap}
-use Rattle.k_frame.specs.k_types.State.{State, ExitItem, has_exit}
-use Rattle.k_frame.specs.k_types.Owners.{user, shared}
-use Rattle.k_frame.specs.k_types.Cells.{entries}
-use Rattle.k_frame.specs.k_types.Sound.{IsSound, AreDistinctExits}
+use Rattle.k_types.specs.Totals.{total}
+use Rattle.k_types.specs.Numbers.{numbers_below}
+use Rattle.k_types.specs.declared.names.Name.{Name}
+use Rattle.k_types.specs.declared.names.Heap.{Heap}
+use Rattle.k_types.specs.declared.names.Heap.TheVariants.{Kernel, User, Shared}
+use Rattle.k_types.specs.Names.{name_eq, heap_eq}
+use Rattle.k_types.specs.Trace.{Trace, process_count, IsHeap}
+use Rattle.k_types.specs.State.{State, ExitItem, has_exit}
+use Rattle.k_types.specs.Owners.{user, shared}
+use Rattle.k_types.specs.Cells.{entries}
+use Rattle.k_types.specs.Sound.{IsSound, AreDistinctExits}
 use Rattle.k_laws.specs.Meaning.{heaps_of}
-use Rattle.k_frame.proofs.NameTests.{name_eq_refl, name_eq-true, heap_eq-true, heap_eq_refl}
-use Rattle.k_frame.proofs.Charges.{bit_turned}
-use Rattle.k_frame.proofs.Sums.{bit, sum_same, sum_added, one_counts, total_map}
-use Rattle.k_frame.proofs.Sums.{total_append, zeros}
+use Rattle.k_types.proofs.NameTests.{name_eq_refl, name_eq-true, heap_eq-true, heap_eq_refl}
+use Rattle.k_types.proofs.Charges.{bit_turned}
+use Rattle.k_types.proofs.Sums.{bit, sum_same, sum_added, one_counts, total_map, total_append, zeros}
 
 parts_of : (trace : Trace) (f : Heap → ℕ) → total f (heaps_of trace)
     ≡ f Kernel + (total (λ p. f (user p)) (numbers_below (process_count trace)) + total (λ s. f (shared s)) (numbers_below trace.shared_heaps))

@@ -1,43 +1,43 @@
 -- The laws of this crate, one lemma a clause under the law's name, for the crates above to cite.
 use Rattle.std.proofs.Common.{◌≡◌, ℕ, ◌+◌, ◌*◌, ◌==◌, sym, ap, ◌∙◌, length, arith, ◌∷◌}
 use Rattle.std.specs.Prelude.{IsFalse, List, if◌then◌else◌, ◌<◌, ◌≤◌, IsTrue, ◌++◌, Some, nat_lt, ◌||◌, ◌↔◌, ◌⊎◌, ◌≢◌}
-use Rattle.k_frame.specs.k_types.Cells.{entries, pins, book_part, use_shown}
-use Rattle.k_frame.specs.k_types.Effects.{step, after_end_of}
-use Rattle.k_frame.specs.k_types.declared.setup.LimitRow.{LimitRow}
-use Rattle.k_frame.specs.k_types.Limits.{limits_in, max_of, path_of, use_of, use_within, full_limit, is_above}
-use Rattle.k_frame.specs.k_types.Local.{is_own}
-use Rattle.k_frame.specs.k_types.Names.{among}
-use Rattle.k_frame.specs.k_types.Owners.{charge_of, objects_of, owner_of, user, bytes_of, phase_of}
-use Rattle.k_frame.specs.k_types.Reach.{live_everywhere, is_entered, reach_among, reach_in}
-use Rattle.k_frame.specs.k_types.Replies.{ends_other, is_populating, reply_to}
-use Rattle.k_frame.specs.k_types.Sound.{IsSound}
-use Rattle.k_frame.specs.k_types.State.{State, has, opening, scan_of, has_exit}
-use Rattle.k_frame.specs.k_types.Steps.{IsLegalHistory, IsPossible, state_after}
-use Rattle.k_frame.specs.k_types.Totals.{total}
-use Rattle.k_frame.specs.k_types.Trace.{Trace, limit_of, process_count, size_of_type}
-use Rattle.k_frame.specs.k_types.TraceRules.{AreLimits, IsTree, ends_a_process, is_resize}
-use Rattle.k_frame.specs.k_types.Updates.{count_done}
-use Rattle.k_frame.specs.k_types.declared.event.Event.{Event}
-use Rattle.k_frame.specs.k_types.declared.event.Event.TheVariants.{Done, Ended}
-use Rattle.k_frame.specs.k_types.declared.event.Fault.{Fault}
-use Rattle.k_frame.specs.k_types.declared.event.Fault.TheVariants.{KernelFull, LimitFull, NotPopulating}
-use Rattle.k_frame.specs.k_types.declared.event.Reply.{Reply}
-use Rattle.k_frame.specs.k_types.declared.event.Reply.TheVariants.{Refused, Done as DoneReply}
-use Rattle.k_frame.specs.k_types.declared.names.Heap.{Heap}
-use Rattle.k_frame.specs.k_types.declared.names.Heap.TheVariants.{Kernel}
-use Rattle.k_frame.specs.k_types.declared.names.LimitId.{LimitId}
-use Rattle.k_frame.specs.k_types.declared.names.Name.{Name}
-use Rattle.k_frame.specs.k_types.declared.names.Pid.{Pid}
-use Rattle.k_frame.specs.k_types.declared.names.Reg.{Reg}
-use Rattle.k_frame.specs.k_types.declared.names.SharedId.{SharedId}
-use Rattle.k_frame.specs.k_types.declared.names.TypeId.{TypeId}
-use Rattle.k_frame.specs.k_types.declared.op.Op.{Op}
-use Rattle.k_frame.specs.k_types.declared.op.Op.TheVariants.{KNew, New, SNew, Store, Exit, Kill, Resize}
-use Rattle.k_frame.proofs.Charges.{use_added}
-use Rattle.k_frame.proofs.Maxima.{tree_in}
-use Rattle.k_frame.proofs.Objects.{some_is}
-use Rattle.k_frame.proofs.Exact.{counted_exact}
-use Rattle.k_frame.proofs.Histories.{legal_front, legal_rest}
+use Rattle.k_types.specs.Cells.{entries, pins, book_part, use_shown}
+use Rattle.k_types.specs.Effects.{step, after_end_of}
+use Rattle.k_types.specs.declared.setup.LimitRow.{LimitRow}
+use Rattle.k_types.specs.Limits.{limits_in, max_of, path_of, use_of, use_within, full_limit, is_above}
+use Rattle.k_types.specs.Local.{is_own}
+use Rattle.k_types.specs.Names.{among}
+use Rattle.k_types.specs.Owners.{charge_of, objects_of, owner_of, user, bytes_of, phase_of}
+use Rattle.k_types.specs.Reach.{live_everywhere, is_entered, reach_among, reach_in}
+use Rattle.k_types.specs.Replies.{ends_other, is_populating, reply_to}
+use Rattle.k_types.specs.Sound.{IsSound}
+use Rattle.k_types.specs.State.{State, has, opening, scan_of, has_exit}
+use Rattle.k_types.specs.Steps.{IsLegalHistory, IsPossible, state_after}
+use Rattle.k_types.specs.Totals.{total}
+use Rattle.k_types.specs.Trace.{Trace, limit_of, process_count, size_of_type}
+use Rattle.k_types.specs.TraceRules.{AreLimits, IsTree, ends_a_process, is_resize}
+use Rattle.k_types.specs.Updates.{count_done}
+use Rattle.k_types.specs.declared.event.Event.{Event}
+use Rattle.k_types.specs.declared.event.Event.TheVariants.{Done, Ended}
+use Rattle.k_types.specs.declared.event.Fault.{Fault}
+use Rattle.k_types.specs.declared.event.Fault.TheVariants.{KernelFull, LimitFull, NotPopulating}
+use Rattle.k_types.specs.declared.event.Reply.{Reply}
+use Rattle.k_types.specs.declared.event.Reply.TheVariants.{Refused, Done as DoneReply}
+use Rattle.k_types.specs.declared.names.Heap.{Heap}
+use Rattle.k_types.specs.declared.names.Heap.TheVariants.{Kernel}
+use Rattle.k_types.specs.declared.names.LimitId.{LimitId}
+use Rattle.k_types.specs.declared.names.Name.{Name}
+use Rattle.k_types.specs.declared.names.Pid.{Pid}
+use Rattle.k_types.specs.declared.names.Reg.{Reg}
+use Rattle.k_types.specs.declared.names.SharedId.{SharedId}
+use Rattle.k_types.specs.declared.names.TypeId.{TypeId}
+use Rattle.k_types.specs.declared.op.Op.{Op}
+use Rattle.k_types.specs.declared.op.Op.TheVariants.{KNew, New, SNew, Store, Exit, Kill, Resize}
+use Rattle.k_types.proofs.Charges.{use_added}
+use Rattle.k_types.proofs.Maxima.{tree_in}
+use Rattle.k_types.proofs.Objects.{some_is}
+use Rattle.k_laws.proofs.Exact.{counted_exact}
+use Rattle.k_laws.proofs.Histories.{legal_front, legal_rest}
 use Rattle.k_laws.proofs.Charged.{operation_charges, operation_uses}
 use Rattle.k_laws.proofs.Ending.{others_never_raise, credits, exit_credits, exit_event, kill_credits, kill_event, idle_kill_event, leaves_rest, may_end_other}
 use Rattle.k_laws.proofs.Resizing.{resize_event}
@@ -59,7 +59,7 @@ use Rattle.k_laws.specs.Refusals.{is_fault_of_store}
 use Rattle.k_laws.specs.Resizing.{MovesTheReservation}
 use Rattle.k_laws.specs.Survivors.{KeepsTheSurvivors}
 use Rattle.k_laws.specs.Termination.{CreditsTheCharge, LeavesTheRest, StaysOrPasses}
-use Rattle.k_frame.proofs.Ancestors.{above_another}
+use Rattle.k_types.proofs.Ancestors.{above_another}
 use Rattle.k_laws.specs.Changes.{MayExit}
 
 -- a charge of n bytes at a limit raises the use of each limit on its path by n, and no other

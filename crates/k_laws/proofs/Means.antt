@@ -2,29 +2,29 @@
 use Rattle.std.proofs.Common.{◌≡◌, ℕ, zero, suc, ◌+◌, ◌-◌, ◌<◌, ◌≤◌, ◌==◌, not, cond, nat_le, Bool, true, false, refl, sym, ap, ◌∙◌, subst, inl, inr, List, length, Some, arith, eqb-true, eq-eqb, false-eqb, IsTrue, IsFalse}
 use Rattle.std.specs.List.{list_any}
 use Rattle.std.proofs.lemmas.Bool.{and_parts, and_from, or_right, or_cases, false≢true, not-true}
-use Rattle.k_frame.specs.k_types.declared.names.Name.{Name}
-use Rattle.k_frame.specs.k_types.declared.names.Heap.{Heap}
-use Rattle.k_frame.specs.k_types.declared.names.Heap.TheVariants.{Kernel, User, Shared}
-use Rattle.k_frame.specs.k_types.declared.names.Phase.{Phase}
-use Rattle.k_frame.specs.k_types.Names.{heap_eq, among, name_among}
-use Rattle.k_frame.specs.k_types.Trace.{Trace, process_count}
-use Rattle.k_frame.specs.k_types.State.{State, Object, refers, refers_in, has_exit, scan_of}
-use Rattle.k_frame.specs.k_types.Owners.{owner_of, objects_of, owner_of_segment, phase_of, is_absorbed, user, shared}
-use Rattle.k_frame.specs.k_types.Reach.{next_fold, closure, reach_in, reach_among}
-use Rattle.k_frame.specs.k_types.Effects.{open_roots, survives, exit_stays, after_ended, after_end_of}
-use Rattle.k_frame.specs.k_types.Updates.{keep_objects, keep_exits, keep_shares, close_scan, clear_registers, end_process, turn_exits}
-use Rattle.k_frame.specs.k_types.Local.{is_own}
-use Rattle.k_frame.specs.k_types.Sound.{IsSound}
+use Rattle.k_types.specs.declared.names.Name.{Name}
+use Rattle.k_types.specs.declared.names.Heap.{Heap}
+use Rattle.k_types.specs.declared.names.Heap.TheVariants.{Kernel, User, Shared}
+use Rattle.k_types.specs.declared.names.Phase.{Phase}
+use Rattle.k_types.specs.Names.{heap_eq, among, name_among}
+use Rattle.k_types.specs.Trace.{Trace, process_count}
+use Rattle.k_types.specs.State.{State, Object, refers, refers_in, has_exit, scan_of}
+use Rattle.k_types.specs.Owners.{owner_of, objects_of, owner_of_segment, phase_of, is_absorbed, user, shared}
+use Rattle.k_types.specs.Reach.{next_fold, closure, reach_in, reach_among}
+use Rattle.k_types.specs.Effects.{open_roots, survives, exit_stays, after_ended, after_end_of}
+use Rattle.k_types.specs.Updates.{keep_objects, keep_exits, keep_shares, close_scan, clear_registers, end_process, turn_exits}
+use Rattle.k_types.specs.Local.{is_own}
+use Rattle.k_types.specs.Sound.{IsSound}
 use Rattle.k_laws.specs.Survivors.{RefersOut}
 use Rattle.k_laws.specs.Termination.{StaysOrPasses}
-use Rattle.k_frame.proofs.NameTests.{heap_eq-true, heap_eq_refl}
+use Rattle.k_types.proofs.NameTests.{heap_eq-true, heap_eq_refl}
 use Rattle.k_laws.proofs.Closure.{set, set_closed, set_refers}
-use Rattle.k_frame.proofs.Objects.{referrer, refers_in-kept, refers_in_has}
-use Rattle.k_frame.proofs.Kept.{has_exit-kept}
-use Rattle.k_frame.proofs.OwnerOf.{owner_user}
+use Rattle.k_types.proofs.Objects.{referrer, refers_in-kept, refers_in_has}
+use Rattle.k_laws.proofs.Kept.{has_exit-kept}
+use Rattle.k_laws.proofs.OwnerOf.{owner_user}
 use Rattle.k_laws.proofs.SoundCollected.{collected_sound}
 use Rattle.k_laws.proofs.Turned.{origin, turned_stays, turned_comes}
-use Rattle.k_frame.proofs.Lists.{length-kept}
+use Rattle.k_types.proofs.Lists.{length-kept}
 
 next_set : (pool : List Object) (start : Name → Bool) (k : ℕ) → set pool start (suc k) ≡ next_fold pool (set pool start k)
 unfolding set closure

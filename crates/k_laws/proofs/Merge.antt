@@ -1,15 +1,14 @@
 -- A heap that becomes the kernel's: what the end of a process and the absorption of a shared heap have in common.
 use Rattle.std.proofs.Common.{◌≡◌, ℕ, ◌⊎◌, cond, sym, ap, ◌∙◌, inl, inr, List, arith, IsTrue, IsFalse, subst}
 use Rattle.std.proofs.lemmas.Bool.{false≢true, cases_Bool, false_from_ne_true}
-use Rattle.k_frame.specs.k_types.declared.names.Name.{Name}
-use Rattle.k_frame.specs.k_types.declared.names.Heap.{Heap}
-use Rattle.k_frame.specs.k_types.declared.names.Heap.TheVariants.{Kernel, User, Shared}
-use Rattle.k_frame.specs.k_types.Names.{heap_eq}
-use Rattle.k_frame.specs.k_types.State.{Object, ExitItem, has_exit}
-use Rattle.k_frame.specs.k_types.Sound.{IsLegalStore}
-use Rattle.k_frame.proofs.NameTests.{heap_eq-true, heap_eq-same, heap_eq_refl}
+use Rattle.k_types.specs.declared.names.Name.{Name}
+use Rattle.k_types.specs.declared.names.Heap.{Heap}
+use Rattle.k_types.specs.declared.names.Heap.TheVariants.{Kernel, User, Shared}
+use Rattle.k_types.specs.Names.{heap_eq}
+use Rattle.k_types.specs.State.{Object, ExitItem, has_exit}
+use Rattle.k_types.specs.Sound.{IsLegalStore, AreGuarded, AreExits}
+use Rattle.k_types.proofs.NameTests.{heap_eq-true, heap_eq-same, heap_eq_refl}
 use Rattle.std.proofs.lemmas.Bool.Decides.{nat_tests}
-use Rattle.k_frame.specs.k_types.Sound.{AreGuarded, AreExits}
 
 -- the owner after the merge of the heap g into the kernel
 abbrev pub merged : Heap → Heap → Heap

@@ -3,22 +3,22 @@ use Rattle.std.proofs.Common.{◌≡◌, ℕ, suc, ◌-◌, ◌<◌, ◌==◌, c
 use Rattle.std.proofs.lemmas.Bool.Decides.{nat_tests}
 use Rattle.std.proofs.Math.Path.{fun_ext}
 use Rattle.std.proofs.lemmas.Bool.{or_left, or_right}
-use Rattle.k_frame.specs.k_types.declared.names.Heap.TheVariants.{Kernel}
-use Rattle.k_frame.specs.k_types.declared.names.Name.{Name}
-use Rattle.k_frame.specs.k_types.declared.names.Heap.{Heap}
-use Rattle.k_frame.specs.k_types.declared.names.Phase.{Phase}
-use Rattle.k_frame.specs.k_types.Names.{name_lt, heap_eq, among}
-use Rattle.k_frame.specs.k_types.Trace.{Trace, process_count, segment_count, IsHeap}
-use Rattle.k_frame.specs.k_types.State.{State, Object, has, has_exit, scan_of}
-use Rattle.k_frame.specs.k_types.Owners.{owner_of, objects_of, owner_of_segment, owner_of_shared, user}
-use Rattle.k_frame.specs.k_types.Cells.{CellPart, BookPart, ProcessPart, part, book_part}
-use Rattle.k_frame.specs.k_types.Sound.{IsSound, IsOrdered, IsOrderedFrom}
+use Rattle.k_types.specs.declared.names.Heap.TheVariants.{Kernel}
+use Rattle.k_types.specs.declared.names.Name.{Name}
+use Rattle.k_types.specs.declared.names.Heap.{Heap}
+use Rattle.k_types.specs.declared.names.Phase.{Phase}
+use Rattle.k_types.specs.Names.{name_lt, heap_eq, among}
+use Rattle.k_types.specs.Trace.{Trace, process_count, segment_count, IsHeap}
+use Rattle.k_types.specs.State.{State, Object, has, has_exit, scan_of}
+use Rattle.k_types.specs.Owners.{owner_of, objects_of, owner_of_segment, owner_of_shared, user}
+use Rattle.k_types.specs.Cells.{CellPart, BookPart, ProcessPart, part, book_part}
+use Rattle.k_types.specs.Sound.{IsSound, IsOrdered, IsOrderedFrom}
 use Rattle.k_laws.specs.Parts.{SameParts, SameState}
-use Rattle.k_frame.proofs.NameTests.{name_eq_refl, heap_eq-true, heap_eq_refl, name_lt_trans}
-use Rattle.k_frame.proofs.Lists.{some_one}
-use Rattle.k_frame.proofs.Tests.{same_test}
-use Rattle.k_frame.proofs.Ordered.{ordered_tail}
-use Rattle.k_frame.proofs.Owners.{owner_known}
+use Rattle.k_types.proofs.NameTests.{name_eq_refl, heap_eq-true, heap_eq_refl, name_lt_trans}
+use Rattle.k_types.proofs.Lists.{some_one}
+use Rattle.k_types.proofs.Tests.{same_test}
+use Rattle.k_types.proofs.Ordered.{ordered_tail}
+use Rattle.k_types.proofs.Owners.{owner_known}
 
 -- lists of one length with the same elements
 list_same : {A : Type 0} (d : A) (xs ys : List A) → length xs ≡ length ys → ((k : ℕ) → k < length xs → get_or xs k d ≡ get_or ys k d) → xs ≡ ys

@@ -1,20 +1,19 @@
 -- The uses still fit where a process is charged more, and the charge fitted on the path of its limit.
 use Rattle.std.proofs.Common.{◌≡◌, ℕ, ◌+◌, ◌*◌, ◌<◌, ◌≤◌, ◌==◌, ◌&&◌, nat_lt, Bool, true, false, cond, refl, sym, ap, ap₂, ◌∙◌, List, [], ◌∷◌, ◌++◌, filter, find, length, None, arith, eqb-true, ne_eqb, eq-eqb, inl, inr, IsTrue, IsFalse, ltb-false, le_trans, le_of_eq, mul-le-mul_left}
 use Rattle.std.proofs.lemmas.Bool.{cases_Bool, cases_eq, false≢true, false_from_ne_true, and_parts}
-use Rattle.k_frame.specs.k_types.declared.names.Heap.{Heap}
-use Rattle.k_frame.specs.k_types.Names.{heap_eq, among}
-use Rattle.k_frame.specs.k_types.Totals.{total}
-use Rattle.k_frame.specs.k_types.TraceRules.{AreLimits}
-use Rattle.k_frame.specs.k_types.Trace.{Trace, process_count, limit_of}
-use Rattle.k_frame.specs.k_types.State.{State, Sharing, has_share}
-use Rattle.k_frame.specs.k_types.Owners.{user, shared, charge_of, charge_by}
-use Rattle.k_frame.specs.k_types.Numbers.{numbers_below}
-use Rattle.k_frame.specs.k_types.Limits.{limits_in, use_of, use_by, direct_by, full_limit, path_of, max_of}
-use Rattle.k_frame.specs.k_types.Sound.{AreDistinctShares}
-use Rattle.k_frame.proofs.Charges.{use_added, counted_once, bit_turned}
-use Rattle.k_frame.proofs.Sums.{bit, sum_added, sum_same, sum-filter, one_counts}
-use Rattle.k_frame.proofs.Maxima.{length_in, tree_in}
-use Rattle.k_frame.proofs.Sums.{total_append}
+use Rattle.k_types.specs.declared.names.Heap.{Heap}
+use Rattle.k_types.specs.Names.{heap_eq, among}
+use Rattle.k_types.specs.Totals.{total}
+use Rattle.k_types.specs.TraceRules.{AreLimits}
+use Rattle.k_types.specs.Trace.{Trace, process_count, limit_of}
+use Rattle.k_types.specs.State.{State, Sharing, has_share}
+use Rattle.k_types.specs.Owners.{user, shared, charge_of, charge_by}
+use Rattle.k_types.specs.Numbers.{numbers_below}
+use Rattle.k_types.specs.Limits.{limits_in, use_of, use_by, direct_by, full_limit, path_of, max_of}
+use Rattle.k_types.specs.Sound.{AreDistinctShares}
+use Rattle.k_types.proofs.Charges.{use_added, counted_once, bit_turned}
+use Rattle.k_types.proofs.Sums.{bit, sum_added, sum_same, sum-filter, one_counts, total_append}
+use Rattle.k_types.proofs.Maxima.{length_in, tree_in}
 
 -- nothing that the search passed meets the test
 pub not_found : (p : ℕ → Bool) (xs : List ℕ) (q : ℕ) → find p xs ≡ None → IsTrue (among q xs) → p q ≡ false

@@ -1,22 +1,22 @@
 -- By what an operation is refused.
 use Rattle.std.proofs.Common.{◌≡◌, ℕ, ◌+◌, ◌<◌, not, nat_lt, Bool, true, false, refl, sym, List, [], ◌∷◌, Option, Some, None, inl, inr, ◌⊎◌, IsTrue, IsFalse, subst, ltb-true}
-use Rattle.k_frame.specs.k_types.declared.names.Name.{Name}
-use Rattle.k_frame.specs.k_types.declared.names.Reg.{Reg}
-use Rattle.k_frame.specs.k_types.declared.names.LimitId.{LimitId}
-use Rattle.k_frame.specs.k_types.declared.names.SharedId.{SharedId}
-use Rattle.k_frame.specs.k_types.declared.names.TypeId.{TypeId}
-use Rattle.k_frame.specs.k_types.declared.names.Heap.{Heap}
-use Rattle.k_frame.specs.k_types.declared.names.Heap.TheVariants.{Kernel, User, Shared}
-use Rattle.k_frame.specs.k_types.declared.op.Op.TheVariants.{New, KNew, SNew, Store}
-use Rattle.k_frame.specs.k_types.declared.event.Fault.{Fault}
-use Rattle.k_frame.specs.k_types.declared.event.Fault.TheVariants.{Foreign, NotSharer, NoField, WrongKind, Frozen, Segv, LimitFull, KernelFull, NotPopulating}
-use Rattle.k_frame.specs.k_types.declared.event.Reply.{Reply}
-use Rattle.k_frame.specs.k_types.declared.event.Reply.TheVariants.{Refused, Done}
-use Rattle.k_frame.specs.k_types.Trace.{Trace, limit_of, size_of_type}
-use Rattle.k_frame.specs.k_types.State.{State, register}
-use Rattle.k_frame.specs.k_types.Owners.{owner_of, bytes_of, phase_of}
-use Rattle.k_frame.specs.k_types.Limits.{full_limit}
-use Rattle.k_frame.specs.k_types.Replies.{reply_to, refused_or, answer, faults, first_fault, fault_where, size_fault, limit_fault, at_base, store_faults, access_faults, sharer_fault, is_populating}
+use Rattle.k_types.specs.declared.names.Name.{Name}
+use Rattle.k_types.specs.declared.names.Reg.{Reg}
+use Rattle.k_types.specs.declared.names.LimitId.{LimitId}
+use Rattle.k_types.specs.declared.names.SharedId.{SharedId}
+use Rattle.k_types.specs.declared.names.TypeId.{TypeId}
+use Rattle.k_types.specs.declared.names.Heap.{Heap}
+use Rattle.k_types.specs.declared.names.Heap.TheVariants.{Kernel, User, Shared}
+use Rattle.k_types.specs.declared.op.Op.TheVariants.{New, KNew, SNew, Store}
+use Rattle.k_types.specs.declared.event.Fault.{Fault}
+use Rattle.k_types.specs.declared.event.Fault.TheVariants.{Foreign, NotSharer, NoField, WrongKind, Frozen, Segv, LimitFull, KernelFull, NotPopulating}
+use Rattle.k_types.specs.declared.event.Reply.{Reply}
+use Rattle.k_types.specs.declared.event.Reply.TheVariants.{Refused, Done}
+use Rattle.k_types.specs.Trace.{Trace, limit_of, size_of_type}
+use Rattle.k_types.specs.State.{State, register}
+use Rattle.k_types.specs.Owners.{owner_of, bytes_of, phase_of}
+use Rattle.k_types.specs.Limits.{full_limit}
+use Rattle.k_types.specs.Replies.{reply_to, refused_or, answer, faults, first_fault, fault_where, size_fault, limit_fault, at_base, store_faults, access_faults, sharer_fault, is_populating}
 use Rattle.k_laws.specs.Refusals.{is_fault_of_store}
 
 -- a refusal names the first fault, where the answer is no refusal

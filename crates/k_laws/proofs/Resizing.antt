@@ -2,24 +2,24 @@
 use Rattle.std.proofs.Common.{◌≡◌, ℕ, refl, sym, Option, Some, None, subst, not}
 use Rattle.std.specs.List.{list_all}
 use Rattle.std.proofs.lemmas.Bool.{and_parts, not-true}
-use Rattle.k_frame.specs.k_types.declared.names.Pid.{Pid}
-use Rattle.k_frame.specs.k_types.declared.names.LimitId.{LimitId}
-use Rattle.k_frame.specs.k_types.declared.op.Op.TheVariants.{Resize}
-use Rattle.k_frame.specs.k_types.declared.event.Fault.{Fault}
-use Rattle.k_frame.specs.k_types.declared.event.Reply.TheVariants.{Done as DoneReply}
-use Rattle.k_frame.specs.k_types.declared.event.Event.TheVariants.{Done}
-use Rattle.k_frame.specs.k_types.Trace.{Trace}
-use Rattle.k_frame.specs.k_types.TraceRules.{AreLimits}
-use Rattle.k_frame.specs.k_types.State.{State, is_scanned}
-use Rattle.k_frame.specs.k_types.Owners.{user}
-use Rattle.k_frame.specs.k_types.Updates.{count_done, set_max}
-use Rattle.k_frame.specs.k_types.Replies.{first_fault, faults, answer, reply_to, refused_or}
-use Rattle.k_frame.specs.k_types.Effects.{step, effect, effect_unless, after_operation}
-use Rattle.k_frame.specs.k_types.Cells.{cells_touched, other_cells}
-use Rattle.k_frame.specs.k_types.Steps.{IsPossible}
-use Rattle.k_frame.specs.k_types.Sound.{IsSound}
+use Rattle.k_types.specs.declared.names.Pid.{Pid}
+use Rattle.k_types.specs.declared.names.LimitId.{LimitId}
+use Rattle.k_types.specs.declared.op.Op.TheVariants.{Resize}
+use Rattle.k_types.specs.declared.event.Fault.{Fault}
+use Rattle.k_types.specs.declared.event.Reply.TheVariants.{Done as DoneReply}
+use Rattle.k_types.specs.declared.event.Event.TheVariants.{Done}
+use Rattle.k_types.specs.Trace.{Trace}
+use Rattle.k_types.specs.TraceRules.{AreLimits}
+use Rattle.k_types.specs.State.{State, is_scanned}
+use Rattle.k_types.specs.Owners.{user}
+use Rattle.k_types.specs.Updates.{count_done, set_max}
+use Rattle.k_types.specs.Replies.{first_fault, faults, answer, reply_to, refused_or}
+use Rattle.k_types.specs.Effects.{step, effect, effect_unless, after_operation}
+use Rattle.k_types.specs.Cells.{cells_touched, other_cells}
+use Rattle.k_types.specs.Steps.{IsPossible}
+use Rattle.k_types.specs.Sound.{IsSound}
 use Rattle.k_laws.specs.Resizing.{MovesTheReservation}
-use Rattle.k_frame.proofs.Lists.{none_is}
+use Rattle.k_types.proofs.Lists.{none_is}
 use Rattle.k_laws.proofs.SoundEffects.{may_resize_of}
 use Rattle.k_laws.proofs.SoundResized.{moves_the_reservation}
 

@@ -1,22 +1,22 @@
 -- A collection of a sound state frees nothing that can still be used.
 use Rattle.std.proofs.Common.{◌≡◌, ℕ, zero, suc, ◌≤◌, ◌⊎◌, ◌&&◌, not, true, false, sym, ap, ◌∙◌, inl, inr, List, [], length, Some, unwrap_or}
 use Rattle.std.proofs.lemmas.Bool.{and_parts, and_from, or_left, or_right, or_cases, false≢true, cases_Bool, not_from_false}
-use Rattle.k_frame.specs.k_types.declared.names.Name.{Name}
-use Rattle.k_frame.specs.k_types.declared.names.Heap.{Heap}
-use Rattle.k_frame.specs.k_types.declared.names.Heap.TheVariants.{Kernel, User, Shared}
-use Rattle.k_frame.specs.k_types.Names.{name_eq, heap_eq, directory, among, name_among}
-use Rattle.k_frame.specs.k_types.Trace.{Trace, process_count}
-use Rattle.k_frame.specs.k_types.State.{State, Object, ExitItem, has, refers_in, in_registers, has_exit, scan_of, is_scanned}
-use Rattle.k_frame.specs.k_types.Owners.{owner_of, objects_of, user, shared, owner_of_segment}
-use Rattle.k_frame.specs.k_types.Numbers.{numbers_below}
-use Rattle.k_frame.specs.k_types.Reach.{reach_in, live_everywhere, is_anchor, is_root, is_entered, is_held, has_entry, is_shared_heap}
-use Rattle.k_frame.specs.k_types.Updates.{keep_objects, keep_exits, keep_shares, close_scan}
-use Rattle.k_frame.specs.k_types.Effects.{step, after_ended, survives}
-use Rattle.k_frame.specs.k_types.declared.event.Event.TheVariants.{Ended}
-use Rattle.k_frame.specs.k_types.Sound.{IsSound}
-use Rattle.k_frame.proofs.Lists.{any_weaker, any_or, length-kept}
-use Rattle.k_frame.proofs.NameTests.{name_eq-true, heap_eq-true, heap_eq-same}
-use Rattle.k_frame.proofs.Objects.{has-kept, refers_in-kept, referrer, refers_in_has, some_is}
+use Rattle.k_types.specs.declared.names.Name.{Name}
+use Rattle.k_types.specs.declared.names.Heap.{Heap}
+use Rattle.k_types.specs.declared.names.Heap.TheVariants.{Kernel, User, Shared}
+use Rattle.k_types.specs.Names.{name_eq, heap_eq, directory, among, name_among}
+use Rattle.k_types.specs.Trace.{Trace, process_count}
+use Rattle.k_types.specs.State.{State, Object, ExitItem, has, refers_in, in_registers, has_exit, scan_of, is_scanned}
+use Rattle.k_types.specs.Owners.{owner_of, objects_of, user, shared, owner_of_segment}
+use Rattle.k_types.specs.Numbers.{numbers_below}
+use Rattle.k_types.specs.Reach.{reach_in, live_everywhere, is_anchor, is_root, is_entered, is_held, has_entry, is_shared_heap}
+use Rattle.k_types.specs.Updates.{keep_objects, keep_exits, keep_shares, close_scan}
+use Rattle.k_types.specs.Effects.{step, after_ended, survives}
+use Rattle.k_types.specs.declared.event.Event.TheVariants.{Ended}
+use Rattle.k_types.specs.Sound.{IsSound}
+use Rattle.k_types.proofs.Lists.{any_weaker, any_or, length-kept}
+use Rattle.k_types.proofs.NameTests.{name_eq-true, heap_eq-true, heap_eq-same}
+use Rattle.k_types.proofs.Objects.{has-kept, refers_in-kept, referrer, refers_in_has, some_is}
 use Rattle.k_laws.proofs.Closure.{set, in_set, set_has, set_refers, closed_refers, start_in}
 
 -- an exit item of a heap other than the owner is an entry

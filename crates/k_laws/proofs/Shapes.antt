@@ -1,19 +1,19 @@
 -- The shape of a state after a change: objects stay typed and placed, and who has ended or populates stays declared.
 use Rattle.std.proofs.Common.{◌≡◌, ℕ, ◌<◌, zero, suc, Bool, true, false, cond, refl, sym, ap, ◌∙◌, inl, inr, List, [], ◌∷◌, map, filter, Option, Some, None, option_map, get_or, set, subst, IsFalse}
-use Rattle.k_frame.specs.k_types.declared.names.Name.{Name}
-use Rattle.k_frame.specs.k_types.declared.names.Pid.{Pid}
-use Rattle.k_frame.specs.k_types.declared.names.Field.{Field}
-use Rattle.k_frame.specs.k_types.declared.names.Field.TheVariants.{Ref, Int}
-use Rattle.k_frame.specs.k_types.declared.names.Phase.{Phase}
-use Rattle.k_frame.specs.k_types.declared.names.Phase.TheVariants.{Unmade, Populating}
-use Rattle.k_frame.specs.k_types.Names.{name_eq}
-use Rattle.k_frame.specs.k_types.Trace.{Trace, process_count}
-use Rattle.k_frame.specs.k_types.State.{Object, Content, Holds, object_at, has, fields_of, field_kind, fresh}
-use Rattle.k_frame.specs.k_types.Updates.{with_object, object_after_write}
-use Rattle.k_frame.specs.k_types.Sound.{IsTyped, AreTyped, AreDeclared}
-use Rattle.k_frame.proofs.NameTests.{name_eq-true}
-use Rattle.k_frame.proofs.Objects.{object_at-placed, object_at-written, object_at-kept, found_name}
-use Rattle.k_frame.proofs.Lists.{get_or-set_cases}
+use Rattle.k_types.specs.declared.names.Name.{Name}
+use Rattle.k_types.specs.declared.names.Pid.{Pid}
+use Rattle.k_types.specs.declared.names.Field.{Field}
+use Rattle.k_types.specs.declared.names.Field.TheVariants.{Ref, Int}
+use Rattle.k_types.specs.declared.names.Phase.{Phase}
+use Rattle.k_types.specs.declared.names.Phase.TheVariants.{Unmade, Populating}
+use Rattle.k_types.specs.Names.{name_eq}
+use Rattle.k_types.specs.Trace.{Trace, process_count}
+use Rattle.k_types.specs.State.{Object, Content, Holds, object_at, has, fields_of, field_kind, fresh}
+use Rattle.k_types.specs.Updates.{with_object, object_after_write}
+use Rattle.k_types.specs.Sound.{IsTyped, AreTyped, AreDeclared}
+use Rattle.k_types.proofs.NameTests.{name_eq-true}
+use Rattle.k_types.proofs.Objects.{object_at-placed, object_at-written, object_at-kept, found_name}
+use Rattle.k_types.proofs.Lists.{get_or-set_cases}
 
 -- the kinds of the fields stay where a field gets what is of its kind
 pub kinds_kept : (fields : List Content) (i : ℕ) (c : Content) → field_kind c ≡ field_kind (get_or fields i (Holds 0)) → map field_kind (set fields i c) ≡ map field_kind fields

@@ -2,28 +2,27 @@
 use Rattle.std.proofs.Common.{◌≡◌, ℕ, ◌<◌, ◌≤◌, ◌⊎◌, ◌==◌, ◌&&◌, ◌||◌, not, Bool, true, false, cond, refl, sym, ap, ◌∙◌, inl, inr, List, [], ◌∷◌, length, filter, Some, None, arith, set, get_or-set_other, get_or-set_same, length-set, IsTrue, IsFalse, nat_le, ◌-◌, zero-le, eq-eqb, ne_eqb, le_trans}
 use Rattle.std.specs.List.{list_any}
 use Rattle.std.proofs.lemmas.Bool.{and_parts, and_from, or_left, or_right, or_cases, or_from, and_left, not_from_true, false≢true, cases_Bool, not_from_false, false_from_ne_true, cases_eq}
-use Rattle.k_frame.specs.k_types.declared.names.Name.{Name}
-use Rattle.k_frame.specs.k_types.declared.names.Heap.{Heap}
-use Rattle.k_frame.specs.k_types.declared.names.Heap.TheVariants.{Kernel, User, Shared}
-use Rattle.k_frame.specs.k_types.declared.names.Phase.TheVariants.{Unmade, Absorbed}
-use Rattle.k_frame.specs.k_types.Names.{name_eq, heap_eq, among}
-use Rattle.k_frame.specs.k_types.Trace.{Trace, process_count}
-use Rattle.k_frame.specs.k_types.State.{State, Object, ExitItem, in_registers, has_exit, scan_of}
-use Rattle.k_frame.specs.k_types.Owners.{owner_of, user, shared, bytes_by, bytes_of, object_bytes, phase_of}
-use Rattle.k_frame.specs.k_types.Numbers.{numbers_below}
-use Rattle.k_frame.specs.k_types.Limits.{limits_in, use_of}
-use Rattle.k_frame.specs.k_types.Reach.{is_root, is_entered, is_held, is_pinned, has_entry}
-use Rattle.k_frame.specs.k_types.Sound.{IsSound, IsLegalStore}
-use Rattle.k_frame.proofs.NameTests.{heap_eq-true, heap_eq-same, heap_eq_refl, heap_eq-false}
-use Rattle.k_frame.specs.k_types.Totals.{total}
-use Rattle.k_frame.specs.k_types.Owners.{is_absorbed, owner_of_segment, owner_of_process, owner_of_shared, charge_of, objects_of}
-use Rattle.k_frame.specs.k_types.Updates.{set_phase, keep_exits}
-use Rattle.k_frame.specs.k_types.Effects.{after_absorbed, stays_after_absorb, lies_in}
+use Rattle.k_types.specs.declared.names.Name.{Name}
+use Rattle.k_types.specs.declared.names.Heap.{Heap}
+use Rattle.k_types.specs.declared.names.Heap.TheVariants.{Kernel, User, Shared}
+use Rattle.k_types.specs.declared.names.Phase.TheVariants.{Unmade, Absorbed}
+use Rattle.k_types.specs.Names.{name_eq, heap_eq, among}
+use Rattle.k_types.specs.Trace.{Trace, process_count}
+use Rattle.k_types.specs.State.{State, Object, ExitItem, in_registers, has_exit, scan_of}
+use Rattle.k_types.specs.Owners.{owner_of, user, shared, bytes_by, bytes_of, object_bytes, phase_of, is_absorbed, owner_of_segment, owner_of_process, owner_of_shared, charge_of, objects_of}
+use Rattle.k_types.specs.Numbers.{numbers_below}
+use Rattle.k_types.specs.Limits.{limits_in, use_of}
+use Rattle.k_types.specs.Reach.{is_root, is_entered, is_held, is_pinned, has_entry}
+use Rattle.k_types.specs.Sound.{IsSound, IsLegalStore}
+use Rattle.k_types.proofs.NameTests.{heap_eq-true, heap_eq-same, heap_eq_refl, heap_eq-false}
+use Rattle.k_types.specs.Totals.{total}
+use Rattle.k_types.specs.Updates.{set_phase, keep_exits}
+use Rattle.k_types.specs.Effects.{after_absorbed, stays_after_absorb, lies_in}
 use Rattle.k_laws.proofs.Shapes.{declared-phase}
 use Rattle.k_laws.specs.Changes.{MayAbsorb}
-use Rattle.k_frame.specs.k_types.Steps.{has_sharer}
+use Rattle.k_types.specs.Steps.{has_sharer}
 use Rattle.k_laws.proofs.Merge.{merged, AreMerged, guarded_merged, exits_merged}
-use Rattle.k_frame.proofs.Kept.{has_exit-kept, any-fewer, distinct_exits-kept}
+use Rattle.k_laws.proofs.Kept.{has_exit-kept, any-fewer, distinct_exits-kept}
 use Rattle.k_laws.proofs.Uses.{charged_less, use_by_less}
 
 -- a shared heap refers only to itself and to the kernel

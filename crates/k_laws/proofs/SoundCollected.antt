@@ -2,34 +2,31 @@
 use Rattle.std.proofs.Common.{◌≡◌, ℕ, ◌≤◌, ◌⊎◌, not, Bool, true, false, cond, refl, sym, ap, ◌∙◌, inl, inr, List, [], ◌∷◌, filter, Some, None, IsTrue, IsFalse, unwrap_or, le_refl, le_trans, eq-eqb, subst}
 use Rattle.std.specs.List.{list_any}
 use Rattle.std.proofs.lemmas.Bool.{and_parts, and_from, or_left, or_right, or_cases, not-true, false≢true, cases_Bool, not_from_false, false_from_ne_true}
-use Rattle.k_frame.specs.k_types.Totals.{total}
-use Rattle.k_frame.specs.k_types.declared.names.Name.{Name}
-use Rattle.k_frame.specs.k_types.declared.names.Heap.{Heap}
-use Rattle.k_frame.specs.k_types.declared.names.Heap.TheVariants.{Kernel, User, Shared}
-use Rattle.k_frame.specs.k_types.Names.{name_lt, heap_eq, directory, name_among}
-use Rattle.k_frame.specs.k_types.Trace.{Trace, process_count}
-use Rattle.k_frame.specs.k_types.State.{State, Object, has, refers, refers_in, in_registers, has_exit, scan_of}
-use Rattle.k_frame.specs.k_types.Owners.{owner_of, user, shared, bytes_by, bytes_of, object_bytes, charge_by, phase_of}
-use Rattle.k_frame.specs.k_types.Limits.{limits_in, use_by, use_of}
-use Rattle.k_frame.specs.k_types.Reach.{is_root, is_entered, is_held, is_pinned, has_entry}
-use Rattle.k_frame.specs.k_types.Sound.{IsSound, IsOrdered, IsOrderedFrom}
-use Rattle.k_frame.proofs.NameTests.{heap_eq-true, heap_eq-same, name_lt_trans}
-use Rattle.k_frame.specs.k_types.declared.names.Pid.{Pid}
-use Rattle.k_frame.specs.k_types.Owners.{objects_of, owner_of_segment}
-use Rattle.k_frame.specs.k_types.declared.names.Phase.TheVariants.{Populating}
-use Rattle.k_frame.specs.k_types.State.{has_share}
-use Rattle.k_frame.specs.k_types.Updates.{keep_objects, keep_exits, keep_shares, close_scan}
-use Rattle.k_frame.specs.k_types.Effects.{after_ended, survives, exit_stays, share_stays, open_roots}
-use Rattle.k_frame.specs.k_types.Reach.{reach_in}
-use Rattle.k_frame.specs.k_types.Replies.{is_populating}
-use Rattle.k_frame.specs.k_types.Steps.{has_sharer}
+use Rattle.k_types.specs.Totals.{total}
+use Rattle.k_types.specs.declared.names.Name.{Name}
+use Rattle.k_types.specs.declared.names.Heap.{Heap}
+use Rattle.k_types.specs.declared.names.Heap.TheVariants.{Kernel, User, Shared}
+use Rattle.k_types.specs.Names.{name_lt, heap_eq, directory, name_among}
+use Rattle.k_types.specs.Trace.{Trace, process_count}
+use Rattle.k_types.specs.State.{State, Object, has, refers, refers_in, in_registers, has_exit, scan_of, has_share}
+use Rattle.k_types.specs.Owners.{owner_of, user, shared, bytes_by, bytes_of, object_bytes, charge_by, phase_of, objects_of, owner_of_segment}
+use Rattle.k_types.specs.Limits.{limits_in, use_by, use_of}
+use Rattle.k_types.specs.Reach.{is_root, is_entered, is_held, is_pinned, has_entry, reach_in}
+use Rattle.k_types.specs.Sound.{IsSound, IsOrdered, IsOrderedFrom}
+use Rattle.k_types.proofs.NameTests.{heap_eq-true, heap_eq-same, name_lt_trans}
+use Rattle.k_types.specs.declared.names.Pid.{Pid}
+use Rattle.k_types.specs.declared.names.Phase.TheVariants.{Populating}
+use Rattle.k_types.specs.Updates.{keep_objects, keep_exits, keep_shares, close_scan}
+use Rattle.k_types.specs.Effects.{after_ended, survives, exit_stays, share_stays, open_roots}
+use Rattle.k_types.specs.Replies.{is_populating}
+use Rattle.k_types.specs.Steps.{has_sharer}
 use Rattle.k_laws.proofs.Shapes.{typed-kept}
-use Rattle.k_frame.proofs.Kept.{distinct_scans-closed, has_exit-kept, has_share-kept, any-fewer, distinct_exits-kept, distinct_shares-kept, scan_closed, sum-fewer, filter_swap}
+use Rattle.k_laws.proofs.Kept.{distinct_scans-closed, has_exit-kept, has_share-kept, any-fewer, distinct_exits-kept, distinct_shares-kept, scan_closed, sum-fewer, filter_swap}
 use Rattle.k_laws.proofs.Uses.{use_by_less, charge_less}
-use Rattle.k_frame.proofs.Objects.{has-kept, refers_in-kept, referred}
-use Rattle.k_frame.proofs.Lists.{below_any, get_or_inside}
+use Rattle.k_types.proofs.Objects.{has-kept, refers_in-kept, referred}
+use Rattle.k_types.proofs.Lists.{below_any, get_or_inside}
 use Rattle.k_laws.proofs.Safe.{root_reached, reach_closed, reach_refers, exit_enters}
-use Rattle.k_frame.proofs.Ordered.{ordered_tail}
+use Rattle.k_types.proofs.Ordered.{ordered_tail}
 
 ordered-kept_from : (q : Name → Bool) (m k : Name) (xs : List Object) → (m ≡ k) ⊎ IsTrue (name_lt m k) → IsOrderedFrom k xs → IsOrderedFrom m (filter (λ o. q o.name) xs)
 ordered-kept_from q m k [] low t = tt

@@ -2,25 +2,25 @@
 use Rattle.std.proofs.Common.{◌≡◌, ◌≢◌, ℕ, ◌+◌, ◌<◌, ◌≤◌, ◌⊎◌, ◌&&◌, true, false, refl, sym, ap, ◌∙◌, inl, inr, List, [], ◌∷◌, length, map, Some, None, arith, get_or, set, get_or-set_same, length-set, slice_index_or, IsTrue, le_trans}
 use Rattle.std.specs.List.{list_any}
 use Rattle.std.proofs.lemmas.Bool.{and_parts, or_left, or_right, or_cases, false≢true, false_from_ne_true}
-use Rattle.k_frame.specs.k_types.declared.names.Name.{Name}
-use Rattle.k_frame.specs.k_types.declared.names.Heap.{Heap}
-use Rattle.k_frame.specs.k_types.declared.names.Phase.TheVariants.{Unmade}
-use Rattle.k_frame.specs.k_types.declared.names.TypeId.{TypeId}
-use Rattle.k_frame.specs.k_types.declared.names.Field.{Field}
-use Rattle.k_frame.specs.k_types.declared.names.Field.TheVariants.{Ref, Int}
-use Rattle.k_frame.specs.k_types.Names.{name_eq, directory}
-use Rattle.k_frame.specs.k_types.Trace.{Trace, segment_count, kinds_of}
-use Rattle.k_frame.specs.k_types.State.{State, Object, has, refers_in, content_leads_to, scan_of, fresh}
-use Rattle.k_frame.specs.k_types.Owners.{owner_of, shared, phase_of}
-use Rattle.k_frame.specs.k_types.Limits.{limits_in, use_of, max_of}
-use Rattle.k_frame.specs.k_types.Reach.{is_entered, is_held}
-use Rattle.k_frame.specs.k_types.Updates.{create, with_object, next_name}
-use Rattle.k_frame.specs.k_types.Sound.{IsSound, IsTyped}
-use Rattle.k_frame.proofs.NameTests.{name_eq_refl, name_eq-true}
-use Rattle.k_frame.proofs.Objects.{has-placed, refers_in-placed}
-use Rattle.k_frame.proofs.Lists.{get_or-set_cases}
+use Rattle.k_types.specs.declared.names.Name.{Name}
+use Rattle.k_types.specs.declared.names.Heap.{Heap}
+use Rattle.k_types.specs.declared.names.Phase.TheVariants.{Unmade}
+use Rattle.k_types.specs.declared.names.TypeId.{TypeId}
+use Rattle.k_types.specs.declared.names.Field.{Field}
+use Rattle.k_types.specs.declared.names.Field.TheVariants.{Ref, Int}
+use Rattle.k_types.specs.Names.{name_eq, directory}
+use Rattle.k_types.specs.Trace.{Trace, segment_count, kinds_of}
+use Rattle.k_types.specs.State.{State, Object, has, refers_in, content_leads_to, scan_of, fresh}
+use Rattle.k_types.specs.Owners.{owner_of, shared, phase_of}
+use Rattle.k_types.specs.Limits.{limits_in, use_of, max_of}
+use Rattle.k_types.specs.Reach.{is_entered, is_held}
+use Rattle.k_types.specs.Updates.{create, with_object, next_name}
+use Rattle.k_types.specs.Sound.{IsSound, IsTyped}
+use Rattle.k_types.proofs.NameTests.{name_eq_refl, name_eq-true}
+use Rattle.k_types.proofs.Objects.{has-placed, refers_in-placed}
+use Rattle.k_types.proofs.Lists.{get_or-set_cases}
 use Rattle.k_laws.proofs.Shapes.{kinds_fresh, typed-placed}
-use Rattle.k_frame.proofs.Ordered.{ordered-placed}
+use Rattle.k_types.proofs.Ordered.{ordered-placed}
 
 -- a fresh object refers to nothing
 fresh_refers : (kinds : List Field) (y : Name) → list_any (content_leads_to y) (map fresh kinds) ≡ false

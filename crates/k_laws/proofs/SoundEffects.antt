@@ -2,37 +2,37 @@
 use Rattle.std.proofs.Common.{◌≡◌, ℕ, ◌+◌, ◌<◌, ◌&&◌, not, Bool, true, false, cond, refl, sym, ap, ◌∙◌, inl, inr, List, [], ◌∷◌, ◌++◌, Option, Some, None, length, get_or, arith, eqb-true, IsTrue, IsFalse, subst, zero, suc, nat_lt, nat_le, ltb-true, ltb-false}
 use Rattle.std.specs.List.{list_all, list_any}
 use Rattle.std.proofs.lemmas.Bool.{cases_Bool, false≢true, and_parts, not-true, not-false, or_left, or_right}
-use Rattle.k_frame.specs.k_types.declared.names.Name.{Name}
-use Rattle.k_frame.specs.k_types.declared.names.Pid.{Pid}
-use Rattle.k_frame.specs.k_types.declared.names.Reg.{Reg}
-use Rattle.k_frame.specs.k_types.declared.names.SharedId.{SharedId}
-use Rattle.k_frame.specs.k_types.declared.names.LimitId.{LimitId}
-use Rattle.k_frame.specs.k_types.declared.names.TypeId.{TypeId}
-use Rattle.k_frame.specs.k_types.declared.names.Heap.{Heap}
-use Rattle.k_frame.specs.k_types.declared.names.Heap.TheVariants.{Kernel, User, Shared}
-use Rattle.k_frame.specs.k_types.declared.names.Phase.{Phase}
-use Rattle.k_frame.specs.k_types.declared.names.Phase.TheVariants.{Unmade, Populating, Frozen, Absorbed}
-use Rattle.k_frame.specs.k_types.declared.op.Op.{Op}
-use Rattle.k_frame.specs.k_types.declared.op.Op.TheVariants.{New, KNew, SNew, Store, Load, Move, Clear, Dir, Put, Get, Collect, KCollect, Share, Freeze, Attach, Exit, Kill, Resize}
-use Rattle.k_frame.specs.k_types.declared.event.Fault.TheVariants.{Foreign, NoField, WrongKind, Segv, NotPopulating, NotFrozen, Taken, ProcNotBelow, LimitNotBelow, InUse}
-use Rattle.k_frame.specs.k_types.declared.names.Field.TheVariants.{Int}
-use Rattle.k_frame.specs.k_types.TraceRules.{AreLimits}
-use Rattle.k_frame.specs.k_types.Bounds.{maximum_below}
-use Rattle.k_frame.specs.k_types.Trace.{Trace, process_count, size_of_type, limit_of}
-use Rattle.k_frame.specs.k_types.Names.{heap_eq, among, leads_to, directory}
-use Rattle.k_frame.specs.k_types.State.{State, Content, Refers, Holds, Object, has, has_share, scan_of, is_scanned, register, in_registers, refers, refers_in, object_at, fields_of, field_kind, content_leads_to}
-use Rattle.k_frame.specs.k_types.Owners.{owner_of, user, shared, bytes_of, charge_by, phase_of, is_absorbed}
-use Rattle.k_frame.specs.k_types.Limits.{full_limit, full_for, is_above, use_of}
-use Rattle.k_frame.specs.k_types.Reach.{is_entered, is_held, roots_of}
-use Rattle.k_frame.specs.k_types.Updates.{open_scan, set_register, add_share, set_phase}
-use Rattle.k_frame.specs.k_types.Replies.{first_fault, faults, size_fault, limit_fault, fault_where, at_base, store_faults, load_faults, access_faults, is_foreign, is_populating, is_unmade, is_frozen, root_of, reference, reference_from, field_at, field_count, is_ref, sharer_fault, number_faults, may_resize}
-use Rattle.k_frame.specs.k_types.Effects.{effect, after_new, after_end_of, after_kill, after_store, after_put, after_freeze}
-use Rattle.k_frame.specs.k_types.Cells.{base_cell, access_cell, other_cells}
-use Rattle.k_frame.specs.k_types.Steps.{in_range}
-use Rattle.k_frame.specs.k_types.Sound.{IsSound}
-use Rattle.k_frame.proofs.NameTests.{name_eq-true, heap_eq-true}
-use Rattle.k_frame.proofs.FrameSteps.{none_first, none_on}
-use Rattle.k_frame.proofs.OwnerOf.{owner_kernel}
+use Rattle.k_types.specs.declared.names.Name.{Name}
+use Rattle.k_types.specs.declared.names.Pid.{Pid}
+use Rattle.k_types.specs.declared.names.Reg.{Reg}
+use Rattle.k_types.specs.declared.names.SharedId.{SharedId}
+use Rattle.k_types.specs.declared.names.LimitId.{LimitId}
+use Rattle.k_types.specs.declared.names.TypeId.{TypeId}
+use Rattle.k_types.specs.declared.names.Heap.{Heap}
+use Rattle.k_types.specs.declared.names.Heap.TheVariants.{Kernel, User, Shared}
+use Rattle.k_types.specs.declared.names.Phase.{Phase}
+use Rattle.k_types.specs.declared.names.Phase.TheVariants.{Unmade, Populating, Frozen, Absorbed}
+use Rattle.k_types.specs.declared.op.Op.{Op}
+use Rattle.k_types.specs.declared.op.Op.TheVariants.{New, KNew, SNew, Store, Load, Move, Clear, Dir, Put, Get, Collect, KCollect, Share, Freeze, Attach, Exit, Kill, Resize}
+use Rattle.k_types.specs.declared.event.Fault.TheVariants.{Foreign, NoField, WrongKind, Segv, NotPopulating, NotFrozen, Taken, ProcNotBelow, LimitNotBelow, InUse}
+use Rattle.k_types.specs.declared.names.Field.TheVariants.{Int}
+use Rattle.k_types.specs.TraceRules.{AreLimits}
+use Rattle.k_types.specs.Bounds.{maximum_below}
+use Rattle.k_types.specs.Trace.{Trace, process_count, size_of_type, limit_of}
+use Rattle.k_types.specs.Names.{heap_eq, among, leads_to, directory}
+use Rattle.k_types.specs.State.{State, Content, Refers, Holds, Object, has, has_share, scan_of, is_scanned, register, in_registers, refers, refers_in, object_at, fields_of, field_kind, content_leads_to}
+use Rattle.k_types.specs.Owners.{owner_of, user, shared, bytes_of, charge_by, phase_of, is_absorbed}
+use Rattle.k_types.specs.Limits.{full_limit, full_for, is_above, use_of}
+use Rattle.k_types.specs.Reach.{is_entered, is_held, roots_of}
+use Rattle.k_types.specs.Updates.{open_scan, set_register, add_share, set_phase}
+use Rattle.k_types.specs.Replies.{first_fault, faults, size_fault, limit_fault, fault_where, at_base, store_faults, load_faults, access_faults, is_foreign, is_populating, is_unmade, is_frozen, root_of, reference, reference_from, field_at, field_count, is_ref, sharer_fault, number_faults, may_resize}
+use Rattle.k_types.specs.Effects.{effect, after_new, after_end_of, after_kill, after_store, after_put, after_freeze}
+use Rattle.k_types.specs.Cells.{base_cell, access_cell, other_cells}
+use Rattle.k_types.specs.Steps.{in_range}
+use Rattle.k_types.specs.Sound.{IsSound}
+use Rattle.k_types.proofs.NameTests.{name_eq-true, heap_eq-true}
+use Rattle.k_laws.proofs.FrameSteps.{none_first, none_on}
+use Rattle.k_laws.proofs.OwnerOf.{owner_kernel}
 use Rattle.k_laws.proofs.Raised.{raised_fits, charge_sharing}
 use Rattle.k_laws.proofs.Safe.{exit_enters}
 use Rattle.k_laws.proofs.Shielded.{IsShielded}
@@ -47,7 +47,7 @@ use Rattle.k_laws.proofs.SoundPopulating.{populating_sound, no_share}
 use Rattle.k_laws.proofs.SoundExited.{exited_sound}
 use Rattle.k_laws.proofs.SoundResized.{resized_sound, has_parent}
 use Rattle.k_laws.specs.Changes.{MayResize}
-use Rattle.k_frame.proofs.Lists.{none_is}
+use Rattle.k_types.proofs.Lists.{none_is}
 
 none_limit : (o : Option ℕ) → limit_fault o ≡ None → o ≡ None
 none_limit None e = refl

@@ -2,18 +2,18 @@
 use Rattle.std.proofs.Common.{◌≡◌, ◌≢◌, ℕ, ◌⊎◌, ◌&&◌, ◌||◌, not, Bool, true, false, cond, refl, sym, ap, ◌∙◌, inl, inr, List, [], ◌∷◌, ◌++◌, arith, IsTrue, IsFalse}
 use Rattle.std.proofs.lemmas.Bool.{and_parts, and_from, or_left, or_right, or_cases, or_parts, false≢true, false_from_ne_true}
 use Rattle.std.proofs.lemmas.List.Folds.{list_any-append}
-use Rattle.k_frame.specs.k_types.declared.names.Name.{Name}
-use Rattle.k_frame.specs.k_types.declared.names.Heap.{Heap}
-use Rattle.k_frame.specs.k_types.declared.names.Heap.TheVariants.{Kernel, User, Shared}
-use Rattle.k_frame.specs.k_types.declared.names.Phase.TheVariants.{Absorbed}
-use Rattle.k_frame.specs.k_types.Names.{name_eq, heap_eq, among}
-use Rattle.k_frame.specs.k_types.Trace.{IsHeap, Trace, process_count}
-use Rattle.k_frame.specs.k_types.State.{State, ExitItem, has, has_exit, scan_of}
-use Rattle.k_frame.specs.k_types.Owners.{owner_of, user, shared, bytes_by, phase_of}
-use Rattle.k_frame.specs.k_types.Reach.{is_root, is_entered, is_held, is_pinned, has_entry}
-use Rattle.k_frame.specs.k_types.Updates.{add_exit, with_exit}
-use Rattle.k_frame.specs.k_types.Sound.{IsSound, IsLegalStore, AreDistinctExits}
-use Rattle.k_frame.proofs.NameTests.{name_eq_refl, name_eq-true, heap_eq-true, heap_eq_refl, name_eq_sym, heap_eq_sym}
+use Rattle.k_types.specs.declared.names.Name.{Name}
+use Rattle.k_types.specs.declared.names.Heap.{Heap}
+use Rattle.k_types.specs.declared.names.Heap.TheVariants.{Kernel, User, Shared}
+use Rattle.k_types.specs.declared.names.Phase.TheVariants.{Absorbed}
+use Rattle.k_types.specs.Names.{name_eq, heap_eq, among}
+use Rattle.k_types.specs.Trace.{IsHeap, Trace, process_count}
+use Rattle.k_types.specs.State.{State, ExitItem, has, has_exit, scan_of}
+use Rattle.k_types.specs.Owners.{owner_of, user, shared, bytes_by, phase_of}
+use Rattle.k_types.specs.Reach.{is_root, is_entered, is_held, is_pinned, has_entry}
+use Rattle.k_types.specs.Updates.{add_exit, with_exit}
+use Rattle.k_types.specs.Sound.{IsSound, IsLegalStore, AreDistinctExits}
+use Rattle.k_types.proofs.NameTests.{name_eq_refl, name_eq-true, heap_eq-true, heap_eq_refl, name_eq_sym, heap_eq_sym}
 use Rattle.k_laws.proofs.Shielded.{IsShielded}
 
 or_false : (b : Bool) → (b || false) ≡ true → b ≡ true

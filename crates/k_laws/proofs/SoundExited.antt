@@ -3,30 +3,27 @@ use Rattle.std.proofs.Common.{◌≡◌, ℕ, ◌<◌, ◌≤◌, ◌⊎◌, ◌
 use Rattle.std.specs.List.{list_any, cons_option}
 use Rattle.std.proofs.lemmas.Bool.{and_parts, and_from, or_left, or_right, or_cases, and_right, not-true, false≢true, cases_Bool, not_from_false, false_from_ne_true, cases_eq}
 use Rattle.std.proofs.lemmas.List.Folds.{list_any-append}
-use Rattle.k_frame.specs.k_types.declared.names.Name.{Name}
-use Rattle.k_frame.specs.k_types.declared.names.Heap.{Heap}
-use Rattle.k_frame.specs.k_types.declared.names.Heap.TheVariants.{Kernel, User, Shared}
-use Rattle.k_frame.specs.k_types.Names.{name_eq, heap_eq, among, leads_to}
-use Rattle.k_frame.specs.k_types.Trace.{IsHeap, Trace, process_count}
-use Rattle.k_frame.specs.k_types.State.{State, ExitItem, in_registers, has_exit, scan_of}
-use Rattle.k_frame.specs.k_types.Owners.{owner_of, user, shared, bytes_by, bytes_of, phase_of}
-use Rattle.k_frame.specs.k_types.Numbers.{numbers_below}
-use Rattle.k_frame.specs.k_types.Limits.{limits_in, use_of}
-use Rattle.k_frame.specs.k_types.Reach.{is_root, is_entered, is_held, is_pinned, has_entry}
-use Rattle.k_frame.specs.k_types.Sound.{IsSound, IsLegalStore, AreDistinctExits}
-use Rattle.k_frame.proofs.NameTests.{name_eq_refl, heap_eq-true, heap_eq-same, heap_eq_refl, heap_eq_sym, heap_eq-false}
-use Rattle.k_frame.proofs.Lists.{any_weaker, get_or-set_cases}
-use Rattle.k_frame.specs.k_types.State.{has_share}
-use Rattle.k_frame.specs.k_types.Owners.{is_absorbed, owner_of_segment, owner_of_process, owner_of_shared, charge_of}
-use Rattle.k_frame.specs.k_types.Reach.{is_shared_heap}
-use Rattle.k_frame.specs.k_types.Updates.{keep_shares, turn_exits, clear_registers, end_process}
-use Rattle.k_frame.specs.k_types.Effects.{after_end_of, exit_after}
+use Rattle.k_types.specs.declared.names.Name.{Name}
+use Rattle.k_types.specs.declared.names.Heap.{Heap}
+use Rattle.k_types.specs.declared.names.Heap.TheVariants.{Kernel, User, Shared}
+use Rattle.k_types.specs.Names.{name_eq, heap_eq, among, leads_to}
+use Rattle.k_types.specs.Trace.{IsHeap, Trace, process_count}
+use Rattle.k_types.specs.State.{State, ExitItem, in_registers, has_exit, scan_of, has_share}
+use Rattle.k_types.specs.Owners.{owner_of, user, shared, bytes_by, bytes_of, phase_of, is_absorbed, owner_of_segment, owner_of_process, owner_of_shared, charge_of}
+use Rattle.k_types.specs.Numbers.{numbers_below}
+use Rattle.k_types.specs.Limits.{limits_in, use_of}
+use Rattle.k_types.specs.Reach.{is_root, is_entered, is_held, is_pinned, has_entry, is_shared_heap}
+use Rattle.k_types.specs.Sound.{IsSound, IsLegalStore, AreDistinctExits}
+use Rattle.k_types.proofs.NameTests.{name_eq_refl, heap_eq-true, heap_eq-same, heap_eq_refl, heap_eq_sym, heap_eq-false}
+use Rattle.k_types.proofs.Lists.{any_weaker, get_or-set_cases}
+use Rattle.k_types.specs.Updates.{keep_shares, turn_exits, clear_registers, end_process}
+use Rattle.k_types.specs.Effects.{after_end_of, exit_after}
 use Rattle.k_laws.specs.Changes.{MayExit}
-use Rattle.k_frame.specs.k_types.Steps.{has_sharer}
+use Rattle.k_types.specs.Steps.{has_sharer}
 use Rattle.k_laws.proofs.Merge.{merged, AreMerged, guarded_merged, exits_merged}
-use Rattle.k_frame.proofs.Kept.{has_share-kept, any-fewer, distinct_shares-kept, exit_is}
+use Rattle.k_laws.proofs.Kept.{has_share-kept, any-fewer, distinct_shares-kept, exit_is}
 use Rattle.k_laws.proofs.Uses.{ended_less, use_by_less}
-use Rattle.k_frame.proofs.ElsewhereOther.{among-push}
+use Rattle.k_laws.proofs.ElsewhereOther.{among-push}
 use Rattle.k_laws.proofs.Turned.{exits', origin, turned_stays, turned_comes, some_element, option_test, any-filter_map, own_turns, other_turns}
 use Rattle.k_laws.proofs.SoundAbsorbed.{bytes_fewer, merged_fewer}
 use Rattle.k_laws.proofs.Safe.{exit_enters}

@@ -1,25 +1,25 @@
 -- A sound state stays sound where a process makes an object, in its heap, in the kernel's or in a shared heap.
 use Rattle.std.proofs.Common.{◌≡◌, ℕ, ◌+◌, ◌*◌, ◌<◌, ◌≤◌, true, false, cond, refl, sym, ap, ◌∙◌, List, [], ◌∷◌, length, filter, Some, None, arith, IsTrue, IsFalse, le_trans}
-use Rattle.k_frame.specs.k_types.declared.names.Name.{Name}
-use Rattle.k_frame.specs.k_types.declared.names.Pid.{Pid}
-use Rattle.k_frame.specs.k_types.declared.names.Phase.TheVariants.{Unmade, Populating}
-use Rattle.k_frame.specs.k_types.declared.names.TypeId.{TypeId}
-use Rattle.k_frame.specs.k_types.declared.names.Heap.{Heap}
-use Rattle.k_frame.specs.k_types.declared.names.Heap.TheVariants.{Kernel, User, Shared}
-use Rattle.k_frame.specs.k_types.Names.{heap_eq, among, name_lt, name_eq}
-use Rattle.k_frame.specs.k_types.Totals.{total}
-use Rattle.k_frame.specs.k_types.TraceRules.{AreLimits}
-use Rattle.k_frame.specs.k_types.Trace.{Trace, process_count, limit_of, kinds_of, size_of_type}
-use Rattle.k_frame.specs.k_types.Types.{object_size}
-use Rattle.k_frame.specs.k_types.State.{State, Object, scan_of, has, fresh, has_share}
-use Rattle.k_frame.specs.k_types.Owners.{owner_of, user, shared, is_absorbed, bytes_by, bytes_of, object_bytes, charge_of, phase_of}
-use Rattle.k_frame.specs.k_types.Limits.{limits_in, full_limit}
-use Rattle.k_frame.specs.k_types.Updates.{create, with_object, next_name}
-use Rattle.k_frame.specs.k_types.Effects.{after_new}
-use Rattle.k_frame.specs.k_types.Sound.{IsSound}
-use Rattle.k_frame.proofs.Sums.{bit}
-use Rattle.k_frame.proofs.NameTests.{name_eq-true}
-use Rattle.k_frame.proofs.OwnerOf.{owner_user, owner_kernel, owner_shared}
+use Rattle.k_types.specs.declared.names.Name.{Name}
+use Rattle.k_types.specs.declared.names.Pid.{Pid}
+use Rattle.k_types.specs.declared.names.Phase.TheVariants.{Unmade, Populating}
+use Rattle.k_types.specs.declared.names.TypeId.{TypeId}
+use Rattle.k_types.specs.declared.names.Heap.{Heap}
+use Rattle.k_types.specs.declared.names.Heap.TheVariants.{Kernel, User, Shared}
+use Rattle.k_types.specs.Names.{heap_eq, among, name_lt, name_eq}
+use Rattle.k_types.specs.Totals.{total}
+use Rattle.k_types.specs.TraceRules.{AreLimits}
+use Rattle.k_types.specs.Trace.{Trace, process_count, limit_of, kinds_of, size_of_type}
+use Rattle.k_types.specs.Types.{object_size}
+use Rattle.k_types.specs.State.{State, Object, scan_of, has, fresh, has_share}
+use Rattle.k_types.specs.Owners.{owner_of, user, shared, is_absorbed, bytes_by, bytes_of, object_bytes, charge_of, phase_of}
+use Rattle.k_types.specs.Limits.{limits_in, full_limit}
+use Rattle.k_types.specs.Updates.{create, with_object, next_name}
+use Rattle.k_types.specs.Effects.{after_new}
+use Rattle.k_types.specs.Sound.{IsSound}
+use Rattle.k_types.proofs.Sums.{bit}
+use Rattle.k_types.proofs.NameTests.{name_eq-true}
+use Rattle.k_laws.proofs.OwnerOf.{owner_user, owner_kernel, owner_shared}
 use Rattle.k_laws.proofs.Uses.{use_by_less, charged_less}
 use Rattle.k_laws.proofs.Raised.{raised_fits, charge_added, charge_shared_added}
 use Rattle.k_laws.proofs.SoundCreate.{create_sound, MayCreate, made_object, made_there}

@@ -2,22 +2,22 @@
 use Rattle.std.proofs.Common.{◌≡◌, ℕ, zero, suc, ◌<◌, ◌≤◌, ◌==◌, ◌&&◌, Bool, true, false, cond, refl, inl, inr, subst, sym, ap, ◌∙◌, ◌∷◌, length, map, filter, replicate, None, Some, arith, get_or, le_trans, IsTrue}
 use Rattle.std.specs.List.{list_any}
 use Rattle.std.proofs.lemmas.Bool.{and_parts, or_cases, false≢true}
-use Rattle.k_frame.specs.k_types.declared.names.Name.{Name}
-use Rattle.k_frame.specs.k_types.declared.names.Field.TheVariants.{Ref}
-use Rattle.k_frame.specs.k_types.declared.names.Phase.TheVariants.{Unmade}
-use Rattle.k_frame.specs.k_types.Names.{name_eq, directory}
-use Rattle.k_frame.specs.k_types.Trace.{Trace, process_count, segment_count, limit_of}
-use Rattle.k_frame.specs.k_types.TraceRules.{AreLimits}
-use Rattle.k_frame.specs.k_types.State.{Object, Refers, field_kind, object_at, opening, has, refers_in, content_leads_to, in_registers}
-use Rattle.k_frame.specs.k_types.Owners.{owner_of, owner_of_segment, bytes_by, charge_of, phase_of}
-use Rattle.k_frame.specs.k_types.Numbers.{numbers_below}
-use Rattle.k_frame.specs.k_types.Limits.{limits_in, direct_by, use_by, use_of, max_of}
-use Rattle.k_frame.specs.k_types.Sound.{IsSound, IsTyped}
-use Rattle.k_frame.proofs.NameTests.{name_eq-true}
-use Rattle.k_frame.proofs.Sizes.{opening_sized}
-use Rattle.k_frame.proofs.Maxima.{own_maxima}
+use Rattle.k_types.specs.declared.names.Name.{Name}
+use Rattle.k_types.specs.declared.names.Field.TheVariants.{Ref}
+use Rattle.k_types.specs.declared.names.Phase.TheVariants.{Unmade}
+use Rattle.k_types.specs.Names.{name_eq, directory}
+use Rattle.k_types.specs.Trace.{Trace, process_count, segment_count, limit_of}
+use Rattle.k_types.specs.TraceRules.{AreLimits}
+use Rattle.k_types.specs.State.{Object, Refers, field_kind, object_at, opening, has, refers_in, content_leads_to, in_registers}
+use Rattle.k_types.specs.Owners.{owner_of, owner_of_segment, bytes_by, charge_of, phase_of}
+use Rattle.k_types.specs.Numbers.{numbers_below}
+use Rattle.k_types.specs.Limits.{limits_in, direct_by, use_by, use_of, max_of}
+use Rattle.k_types.specs.Sound.{IsSound, IsTyped}
+use Rattle.k_types.proofs.NameTests.{name_eq-true}
+use Rattle.k_laws.proofs.Sizes.{opening_sized}
+use Rattle.k_types.proofs.Maxima.{own_maxima}
 use Rattle.k_laws.proofs.Uses.{use_less}
-use Rattle.k_frame.proofs.Sums.{zeros, total_at_most}
+use Rattle.k_types.proofs.Sums.{zeros, total_at_most}
 use Rattle.k_laws.proofs.SoundExited.{none_in}
 
 pub all_unmade : (n s : ℕ) → phase_of (replicate n Unmade) s ≡ Unmade

@@ -1,27 +1,27 @@
 -- A sound state stays sound where a process takes a shared heap to populate it.
 use Rattle.std.proofs.Common.{◌≡◌, ℕ, ◌*◌, ◌<◌, ◌≤◌, ◌⊎◌, ◌||◌, ◌==◌, sym, ap, ap₂, ◌∙◌, inl, inr, [], ◌∷◌, ◌++◌, length, set, length-set, get_or-set_same, arith, IsTrue, IsFalse, subst, le_trans}
 use Rattle.std.proofs.lemmas.Bool.{false≢true, false_from_ne_true}
-use Rattle.k_frame.specs.k_types.declared.names.Name.{Name}
-use Rattle.k_frame.specs.k_types.declared.names.Heap.{Heap}
-use Rattle.k_frame.specs.k_types.declared.names.Pid.{Pid}
-use Rattle.k_frame.specs.k_types.declared.names.Phase.{Phase}
-use Rattle.k_frame.specs.k_types.declared.names.Phase.TheVariants.{Unmade, Populating}
-use Rattle.k_frame.specs.k_types.Names.{among}
-use Rattle.k_frame.specs.k_types.Trace.{Trace, process_count}
-use Rattle.k_frame.specs.k_types.State.{State, has_share}
-use Rattle.k_frame.specs.k_types.Owners.{owner_of, shared, bytes_by, bytes_of, charge_of, charge_by, phase_of, is_absorbed}
-use Rattle.k_frame.specs.k_types.Limits.{limits_in, use_by, max_of}
-use Rattle.k_frame.specs.k_types.Reach.{is_root, is_entered, is_held, is_pinned, has_entry}
-use Rattle.k_frame.specs.k_types.Updates.{set_phase}
-use Rattle.k_frame.specs.k_types.Sound.{IsSound, AreGuarded, AreExits}
-use Rattle.k_frame.proofs.Lists.{get_or-set_cases}
-use Rattle.k_frame.proofs.Sums.{bit}
+use Rattle.k_types.specs.declared.names.Name.{Name}
+use Rattle.k_types.specs.declared.names.Heap.{Heap}
+use Rattle.k_types.specs.declared.names.Pid.{Pid}
+use Rattle.k_types.specs.declared.names.Phase.{Phase}
+use Rattle.k_types.specs.declared.names.Phase.TheVariants.{Unmade, Populating}
+use Rattle.k_types.specs.Names.{among}
+use Rattle.k_types.specs.Trace.{Trace, process_count}
+use Rattle.k_types.specs.State.{State, has_share}
+use Rattle.k_types.specs.Owners.{owner_of, shared, bytes_by, bytes_of, charge_of, charge_by, phase_of, is_absorbed}
+use Rattle.k_types.specs.Limits.{limits_in, use_by, max_of}
+use Rattle.k_types.specs.Reach.{is_root, is_entered, is_held, is_pinned, has_entry}
+use Rattle.k_types.specs.Updates.{set_phase}
+use Rattle.k_types.specs.Sound.{IsSound, AreGuarded, AreExits}
+use Rattle.k_types.proofs.Lists.{get_or-set_cases}
+use Rattle.k_types.proofs.Sums.{bit}
 use Rattle.k_laws.proofs.Shapes.{declared-phase}
 use Rattle.k_laws.proofs.SoundShare.{owner_kept}
 use Rattle.k_laws.proofs.SoundSharing.{sharing, share_cases, share_kept, share_there, sharer_cases, distinct_shares-push, bytes_none}
 use Rattle.k_laws.proofs.Raised.{charge_sharing}
 use Rattle.k_laws.proofs.Uses.{use_by_less}
-use Rattle.k_frame.proofs.Shares.{sharer_of}
+use Rattle.k_types.proofs.Shares.{sharer_of}
 
 module _ (trace : Trace) (st : State) (pid : Pid) (s : ℕ) (sound : IsSound trace st) (known : pid.0 < process_count trace) (lives : IsFalse (among pid.0 st.ended))
     (inside : s < trace.shared_heaps) (unmade : phase_of st.phases s ≡ Unmade) where

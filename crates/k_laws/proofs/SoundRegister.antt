@@ -2,19 +2,18 @@
 use Rattle.std.proofs.Common.{◌≡◌, ℕ, ◌<◌, ◌⊎◌, ◌&&◌, not, true, sym, ap, ◌∙◌, inl, inr, List, [], length, Option, get_or, set, length-set, IsTrue, IsFalse}
 use Rattle.std.specs.List.{list_any}
 use Rattle.std.proofs.lemmas.Bool.{and_parts, and_from, or_left, or_right, or_cases, false≢true, false_from_ne_true}
-use Rattle.k_frame.specs.k_types.declared.names.Name.{Name}
-use Rattle.k_frame.specs.k_types.declared.names.Heap.{Heap}
-use Rattle.k_frame.specs.k_types.declared.names.Heap.TheVariants.{Kernel, User, Shared}
-use Rattle.k_frame.specs.k_types.Names.{heap_eq, among, leads_to}
-use Rattle.k_frame.specs.k_types.Trace.{Trace, process_count}
-use Rattle.k_frame.specs.k_types.State.{State, has, in_registers, scan_of}
-use Rattle.k_frame.specs.k_types.Owners.{owner_of, user, bytes_by}
-use Rattle.k_frame.specs.k_types.Numbers.{numbers_below}
-use Rattle.k_frame.specs.k_types.Reach.{is_root, is_entered, is_held, is_pinned, has_entry}
-use Rattle.k_frame.specs.k_types.Updates.{set_register}
-use Rattle.k_frame.specs.k_types.Sound.{IsSound}
-use Rattle.k_frame.proofs.Lists.{any_or, get_or-set_cases}
-use Rattle.k_frame.proofs.Lists.{any-set}
+use Rattle.k_types.specs.declared.names.Name.{Name}
+use Rattle.k_types.specs.declared.names.Heap.{Heap}
+use Rattle.k_types.specs.declared.names.Heap.TheVariants.{Kernel, User, Shared}
+use Rattle.k_types.specs.Names.{heap_eq, among, leads_to}
+use Rattle.k_types.specs.Trace.{Trace, process_count}
+use Rattle.k_types.specs.State.{State, has, in_registers, scan_of}
+use Rattle.k_types.specs.Owners.{owner_of, user, bytes_by}
+use Rattle.k_types.specs.Numbers.{numbers_below}
+use Rattle.k_types.specs.Reach.{is_root, is_entered, is_held, is_pinned, has_entry}
+use Rattle.k_types.specs.Updates.{set_register}
+use Rattle.k_types.specs.Sound.{IsSound}
+use Rattle.k_types.proofs.Lists.{any_or, get_or-set_cases, any-set}
 use Rattle.k_laws.proofs.Shielded.{IsShielded}
 
 -- a register that leads to the object after the write did so before, or was written

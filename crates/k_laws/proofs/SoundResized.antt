@@ -1,23 +1,23 @@
 -- A sound state stays sound where a limit gets another maximum, and what that makes of the uses.
 use Rattle.std.proofs.Common.{◌≡◌, ◌≢◌, ℕ, zero, suc, ◌+◌, ◌-◌, ◌*◌, ◌<◌, ◌≤◌, ◌&&◌, ◌⊎◌, Bool, true, false, cond, refl, sym, ap, ap₂, ◌∙◌, List, length, Option, Some, None, nat_lt, arith, inl, inr, IsTrue, IsFalse, subst, length-set, ltb-false, ltb-true}
 use Rattle.std.proofs.lemmas.Bool.{lt-ltb, cases_Bool, cases_eq, false≢true, false_from_ne_true}
-use Rattle.k_frame.specs.k_types.declared.names.LimitId.{LimitId}
-use Rattle.k_frame.specs.k_types.declared.setup.LimitRow.{LimitRow}
-use Rattle.k_frame.specs.k_types.Names.{among}
-use Rattle.k_frame.specs.k_types.TraceRules.{AreLimits}
-use Rattle.k_frame.specs.k_types.Trace.{Trace, row_of}
-use Rattle.k_frame.specs.k_types.State.{State}
-use Rattle.k_frame.specs.k_types.Owners.{charge_of, bytes_by}
-use Rattle.k_frame.specs.k_types.Limits.{limits_in, use_of, use_within, direct_by, full_limit, full_above, path_of, max_of, ancestors_within, ancestors_above}
-use Rattle.k_frame.specs.k_types.Reach.{is_entered, is_held}
-use Rattle.k_frame.specs.k_types.Updates.{set_max}
-use Rattle.k_frame.specs.k_types.Sound.{IsSound}
+use Rattle.k_types.specs.declared.names.LimitId.{LimitId}
+use Rattle.k_types.specs.declared.setup.LimitRow.{LimitRow}
+use Rattle.k_types.specs.Names.{among}
+use Rattle.k_types.specs.TraceRules.{AreLimits}
+use Rattle.k_types.specs.Trace.{Trace, row_of}
+use Rattle.k_types.specs.State.{State}
+use Rattle.k_types.specs.Owners.{charge_of, bytes_by}
+use Rattle.k_types.specs.Limits.{limits_in, use_of, use_within, direct_by, full_limit, full_above, path_of, max_of, ancestors_within, ancestors_above}
+use Rattle.k_types.specs.Reach.{is_entered, is_held}
+use Rattle.k_types.specs.Updates.{set_max}
+use Rattle.k_types.specs.Sound.{IsSound}
 use Rattle.k_laws.specs.Changes.{MayResize}
 use Rattle.k_laws.specs.Resizing.{reserves_at, reserves_by, MovesTheReservation}
-use Rattle.k_frame.proofs.Charges.{path_low}
-use Rattle.k_frame.proofs.Maxima.{length_in, parent_in, hard_in, tree_in, max_set, max_set_other}
-use Rattle.k_frame.proofs.Resized.{uses_stay, use_moved}
-use Rattle.k_frame.proofs.Exact.{counted_exact}
+use Rattle.k_types.proofs.Charges.{path_low}
+use Rattle.k_types.proofs.Maxima.{length_in, parent_in, hard_in, tree_in, max_set, max_set_other}
+use Rattle.k_types.proofs.Resized.{uses_stay, use_moved}
+use Rattle.k_laws.proofs.Exact.{counted_exact}
 use Rattle.k_laws.proofs.Raised.{not_found}
 use Rattle.k_laws.proofs.UsesRaised.{times}
 

@@ -1,21 +1,18 @@
 -- A sound state stays sound where a collection begins.
 use Rattle.std.proofs.Common.{◌≡◌, ◌⊎◌, ◌&&◌, ◌||◌, Bool, true, false, cond, refl, subst, sym, ap, ◌∙◌, inl, inr, List, [], ◌∷◌, map, filter, Some, None, IsTrue, option_map, find}
 use Rattle.std.proofs.lemmas.Bool.{and_parts, and_from, false≢true}
-use Rattle.k_frame.specs.k_types.declared.names.Name.{Name}
-use Rattle.k_frame.specs.k_types.declared.names.Heap.{Heap}
-use Rattle.k_frame.specs.k_types.Names.{name_eq, heap_eq, name_among}
-use Rattle.k_frame.specs.k_types.Trace.{IsHeap, Trace}
-use Rattle.k_frame.specs.k_types.State.{State, Object, has, scan_of}
-use Rattle.k_frame.specs.k_types.Owners.{owner_of, user, shared, bytes_by}
-use Rattle.k_frame.specs.k_types.Reach.{is_root, is_entered, is_held}
-use Rattle.k_frame.specs.k_types.Sound.{IsSound}
-use Rattle.k_frame.proofs.NameTests.{heap_eq-true, heap_eq-false, heap_eq-same}
-use Rattle.k_frame.specs.k_types.State.{Scan}
-use Rattle.k_frame.specs.k_types.Owners.{objects_of}
-use Rattle.k_frame.specs.k_types.Reach.{roots_of}
-use Rattle.k_frame.specs.k_types.Updates.{open_scan}
+use Rattle.k_types.specs.declared.names.Name.{Name}
+use Rattle.k_types.specs.declared.names.Heap.{Heap}
+use Rattle.k_types.specs.Names.{name_eq, heap_eq, name_among}
+use Rattle.k_types.specs.Trace.{IsHeap, Trace}
+use Rattle.k_types.specs.State.{State, Object, has, scan_of, Scan}
+use Rattle.k_types.specs.Owners.{owner_of, user, shared, bytes_by, objects_of}
+use Rattle.k_types.specs.Reach.{is_root, is_entered, is_held, roots_of}
+use Rattle.k_types.specs.Sound.{IsSound}
+use Rattle.k_types.proofs.NameTests.{heap_eq-true, heap_eq-false, heap_eq-same}
+use Rattle.k_types.specs.Updates.{open_scan}
 use Rattle.k_laws.specs.Changes.{MayScan}
-use Rattle.k_frame.proofs.Objects.{has-kept}
+use Rattle.k_types.proofs.Objects.{has-kept}
 
 among-names : (n : Name) (xs : List Object) → name_among n (map (λ o. o.name) xs) ≡ has xs n
 among-names n [] = refl

@@ -1,21 +1,19 @@
 -- A sound state stays sound where a shared heap is made, frozen and shared.
 use Rattle.std.proofs.Common.{◌≡◌, ℕ, ◌≤◌, ◌⊎◌, ◌==◌, ◌||◌, cond, sym, ap, ◌∙◌, inl, inr, List, set, length-set, IsTrue, subst, nat_le, ◌-◌}
 use Rattle.std.proofs.Math.Path.{fun_ext}
-use Rattle.k_frame.specs.k_types.declared.names.Name.{Name}
-use Rattle.k_frame.specs.k_types.declared.names.Heap.{Heap}
-use Rattle.k_frame.specs.k_types.declared.names.Heap.TheVariants.{Kernel}
-use Rattle.k_frame.specs.k_types.declared.names.Phase.TheVariants.{Unmade}
-use Rattle.k_frame.specs.k_types.Trace.{Trace, process_count}
-use Rattle.k_frame.specs.k_types.State.{State}
-use Rattle.k_frame.specs.k_types.Owners.{owner_of, shared, bytes_by, charge_by, phase_of}
-use Rattle.k_frame.specs.k_types.Limits.{limits_in, use_by, max_of}
-use Rattle.k_frame.specs.k_types.Reach.{is_root, is_entered, is_held, is_pinned, has_entry}
-use Rattle.k_frame.specs.k_types.Sound.{AreGuarded, AreExits, IsSound}
-use Rattle.k_frame.proofs.Lists.{get_or-set_cases}
-use Rattle.k_frame.specs.k_types.declared.names.Phase.{Phase}
-use Rattle.k_frame.specs.k_types.declared.names.Phase.TheVariants.{Frozen}
-use Rattle.k_frame.specs.k_types.Owners.{is_absorbed, owner_of_segment, owner_of_process}
-use Rattle.k_frame.specs.k_types.Updates.{set_phase}
+use Rattle.k_types.specs.declared.names.Name.{Name}
+use Rattle.k_types.specs.declared.names.Heap.{Heap}
+use Rattle.k_types.specs.declared.names.Heap.TheVariants.{Kernel}
+use Rattle.k_types.specs.declared.names.Phase.TheVariants.{Unmade, Frozen}
+use Rattle.k_types.specs.Trace.{Trace, process_count}
+use Rattle.k_types.specs.State.{State}
+use Rattle.k_types.specs.Owners.{owner_of, shared, bytes_by, charge_by, phase_of, is_absorbed, owner_of_segment, owner_of_process}
+use Rattle.k_types.specs.Limits.{limits_in, use_by, max_of}
+use Rattle.k_types.specs.Reach.{is_root, is_entered, is_held, is_pinned, has_entry}
+use Rattle.k_types.specs.Sound.{AreGuarded, AreExits, IsSound}
+use Rattle.k_types.proofs.Lists.{get_or-set_cases}
+use Rattle.k_types.specs.declared.names.Phase.{Phase}
+use Rattle.k_types.specs.Updates.{set_phase}
 use Rattle.k_laws.proofs.Shapes.{declared-phase}
 use Rattle.k_laws.specs.Changes.{MayFreeze}
 

@@ -3,20 +3,20 @@ use Rattle.std.proofs.Common.{◌≡◌, ◌≢◌, ℕ, ◌<◌, ◌≤◌, ◌
 use Rattle.std.proofs.lemmas.Bool.{or_cases, or_parts, or_left, or_right, false≢true, false_from_ne_true}
 use Rattle.std.proofs.lemmas.Bool.Decides.{nat_tests}
 use Rattle.std.proofs.lemmas.List.Folds.{list_any-append}
-use Rattle.k_frame.specs.k_types.declared.names.Name.{Name}
-use Rattle.k_frame.specs.k_types.declared.names.Heap.{Heap}
-use Rattle.k_frame.specs.k_types.declared.names.Heap.TheVariants.{Kernel, User, Shared}
-use Rattle.k_frame.specs.k_types.declared.names.Pid.{Pid}
-use Rattle.k_frame.specs.k_types.declared.names.Phase.TheVariants.{Unmade, Populating, Absorbed}
-use Rattle.k_frame.specs.k_types.Names.{heap_eq, among}
-use Rattle.k_frame.specs.k_types.Trace.{Trace, process_count}
-use Rattle.k_frame.specs.k_types.State.{State, Object, Sharing, has, has_share}
-use Rattle.k_frame.specs.k_types.Owners.{bytes_by, bytes_of, charge_by, phase_of}
-use Rattle.k_frame.specs.k_types.Limits.{limits_in, use_by, max_of}
-use Rattle.k_frame.specs.k_types.Reach.{is_entered, is_held}
-use Rattle.k_frame.specs.k_types.Steps.{has_sharer}
-use Rattle.k_frame.specs.k_types.Sound.{IsSound, AreDistinctShares}
-use Rattle.k_frame.proofs.NameTests.{name_eq_refl, heap_eq-true}
+use Rattle.k_types.specs.declared.names.Name.{Name}
+use Rattle.k_types.specs.declared.names.Heap.{Heap}
+use Rattle.k_types.specs.declared.names.Heap.TheVariants.{Kernel, User, Shared}
+use Rattle.k_types.specs.declared.names.Pid.{Pid}
+use Rattle.k_types.specs.declared.names.Phase.TheVariants.{Unmade, Populating, Absorbed}
+use Rattle.k_types.specs.Names.{heap_eq, among}
+use Rattle.k_types.specs.Trace.{Trace, process_count}
+use Rattle.k_types.specs.State.{State, Object, Sharing, has, has_share}
+use Rattle.k_types.specs.Owners.{bytes_by, bytes_of, charge_by, phase_of}
+use Rattle.k_types.specs.Limits.{limits_in, use_by, max_of}
+use Rattle.k_types.specs.Reach.{is_entered, is_held}
+use Rattle.k_types.specs.Steps.{has_sharer}
+use Rattle.k_types.specs.Sound.{IsSound, AreDistinctShares}
+use Rattle.k_types.proofs.NameTests.{name_eq_refl, heap_eq-true}
 
 pub share_cases : (shares : List Sharing) (p s q t : ℕ) → IsTrue (has_share (shares ++ record { process = p; heap = s } ∷ []) q t) → IsTrue (has_share shares q t) ⊎ ((q ≡ p) × (t ≡ s))
 share_cases shares p s q t e =

@@ -2,32 +2,32 @@
 use Rattle.std.proofs.Common.{◌≡◌, ℕ, not, refl, ◌∙◌, List, [], ◌∷◌, Option, Some, None, length-set}
 use Rattle.std.specs.List.{list_all}
 use Rattle.std.proofs.lemmas.Bool.{and_parts, not-true}
-use Rattle.k_frame.specs.k_types.declared.names.Pid.{Pid}
-use Rattle.k_frame.specs.k_types.declared.names.SharedId.{SharedId}
-use Rattle.k_frame.specs.k_types.declared.names.Heap.{Heap}
-use Rattle.k_frame.specs.k_types.declared.names.Heap.TheVariants.{Kernel}
-use Rattle.k_frame.specs.k_types.declared.op.Op.{Op}
-use Rattle.k_frame.specs.k_types.declared.event.Fault.{Fault}
-use Rattle.k_frame.specs.k_types.declared.event.Reply.{Reply}
-use Rattle.k_frame.specs.k_types.declared.event.Event.{Event}
-use Rattle.k_frame.specs.k_types.declared.event.Event.TheVariants.{Done, Ended, Absorbed, Closing}
-use Rattle.k_frame.specs.k_types.TraceRules.{AreLimits}
-use Rattle.k_frame.specs.k_types.Trace.{Trace}
-use Rattle.k_frame.specs.k_types.State.{State, opening, scan_of, is_scanned}
-use Rattle.k_frame.specs.k_types.Owners.{user, bytes_by, phase_of}
-use Rattle.k_frame.specs.k_types.Reach.{is_entered, is_held, roots_of}
-use Rattle.k_frame.specs.k_types.Updates.{count_done, close, open_scan}
-use Rattle.k_frame.specs.k_types.Replies.{first_fault, faults}
-use Rattle.k_frame.specs.k_types.Effects.{step, effect, effect_unless, after_operation, after_closing}
-use Rattle.k_frame.specs.k_types.Cells.{cells_touched, other_cells}
-use Rattle.k_frame.specs.k_types.Steps.{IsPossible, IsRun, IsLegalHistory, run, state_after, is_live, has_sharer}
-use Rattle.k_frame.specs.k_types.Sound.{IsSound}
-use Rattle.k_frame.proofs.Objects.{some_is}
+use Rattle.k_types.specs.declared.names.Pid.{Pid}
+use Rattle.k_types.specs.declared.names.SharedId.{SharedId}
+use Rattle.k_types.specs.declared.names.Heap.{Heap}
+use Rattle.k_types.specs.declared.names.Heap.TheVariants.{Kernel}
+use Rattle.k_types.specs.declared.op.Op.{Op}
+use Rattle.k_types.specs.declared.event.Fault.{Fault}
+use Rattle.k_types.specs.declared.event.Reply.{Reply}
+use Rattle.k_types.specs.declared.event.Event.{Event}
+use Rattle.k_types.specs.declared.event.Event.TheVariants.{Done, Ended, Absorbed, Closing}
+use Rattle.k_types.specs.TraceRules.{AreLimits}
+use Rattle.k_types.specs.Trace.{Trace}
+use Rattle.k_types.specs.State.{State, opening, scan_of, is_scanned}
+use Rattle.k_types.specs.Owners.{user, bytes_by, phase_of}
+use Rattle.k_types.specs.Reach.{is_entered, is_held, roots_of}
+use Rattle.k_types.specs.Updates.{count_done, close, open_scan}
+use Rattle.k_types.specs.Replies.{first_fault, faults}
+use Rattle.k_types.specs.Effects.{step, effect, effect_unless, after_operation, after_closing}
+use Rattle.k_types.specs.Cells.{cells_touched, other_cells}
+use Rattle.k_types.specs.Steps.{IsPossible, IsRun, IsLegalHistory, run, state_after, is_live, has_sharer}
+use Rattle.k_types.specs.Sound.{IsSound}
+use Rattle.k_types.proofs.Objects.{some_is}
 use Rattle.k_laws.proofs.SoundOpening.{opening_sound}
 use Rattle.k_laws.proofs.SoundEffects.{effect_sound, kernel_scan_sound}
 use Rattle.k_laws.proofs.SoundAbsorbed.{absorbed_sound}
 use Rattle.k_laws.proofs.SoundCollected.{collected_sound}
-use Rattle.k_frame.proofs.Lists.{none_is}
+use Rattle.k_types.proofs.Lists.{none_is}
 
 pub count_done_sound : (trace : Trace) (st : State) (p : ℕ) → IsSound trace st → IsSound trace (count_done p st)
 unfolding count_done bytes_by is_entered is_held

@@ -2,29 +2,27 @@
 use Rattle.std.proofs.Common.{◌≡◌, ◌≢◌, ℕ, ◌<◌, not, true, false, cond, refl, sym, ap, ◌∙◌, inl, inr, List, [], ◌∷◌, length, Option, Some, None, arith, get_or, IsTrue, IsFalse, zero, suc, subst}
 use Rattle.std.specs.List.{list_any}
 use Rattle.std.proofs.lemmas.Bool.{and_from, or_left, or_right, not-false, false≢true, cases_Bool, not_from_false}
-use Rattle.k_frame.specs.k_types.declared.names.Name.{Name}
-use Rattle.k_frame.specs.k_types.declared.names.Phase.TheVariants.{Absorbed}
-use Rattle.k_frame.specs.k_types.Names.{heap_eq, among, leads_to}
-use Rattle.k_frame.specs.k_types.Trace.{IsHeap, Trace, process_count}
-use Rattle.k_frame.specs.k_types.State.{State, has, in_registers, has_exit, scan_of}
-use Rattle.k_frame.specs.k_types.Owners.{owner_of, user, shared, phase_of}
-use Rattle.k_frame.specs.k_types.Reach.{is_entered}
-use Rattle.k_frame.specs.k_types.Updates.{write, add_exit}
-use Rattle.k_frame.specs.k_types.Sound.{IsSound, IsLegalStore}
-use Rattle.k_frame.proofs.NameTests.{name_eq_refl, name_eq-true, heap_eq-true}
+use Rattle.k_types.specs.declared.names.Name.{Name}
+use Rattle.k_types.specs.declared.names.Phase.TheVariants.{Absorbed}
+use Rattle.k_types.specs.Names.{heap_eq, among, leads_to}
+use Rattle.k_types.specs.Trace.{IsHeap, Trace, process_count}
+use Rattle.k_types.specs.State.{State, has, in_registers, has_exit, scan_of, register, Content, Refers, Holds, field_kind, fields_of, object_at}
+use Rattle.k_types.specs.Owners.{owner_of, user, shared, phase_of, is_absorbed}
+use Rattle.k_types.specs.Reach.{is_entered}
+use Rattle.k_types.specs.Updates.{write, add_exit}
+use Rattle.k_types.specs.Sound.{IsSound, IsLegalStore}
+use Rattle.k_types.proofs.NameTests.{name_eq_refl, name_eq-true, heap_eq-true}
 use Rattle.k_laws.proofs.Shielded.{IsShielded}
-use Rattle.k_frame.specs.k_types.declared.event.Fault.TheVariants.{Foreign, NoField, WrongKind, Frozen, Segv}
-use Rattle.k_frame.specs.k_types.declared.names.Field.TheVariants.{Ref}
-use Rattle.k_frame.specs.k_types.State.{register, Content, Refers, Holds, field_kind, fields_of, object_at}
-use Rattle.k_frame.specs.k_types.Owners.{is_absorbed}
-use Rattle.k_frame.specs.k_types.Replies.{first_fault, access_faults, is_foreign, sharer_fault, passes_barrier, store_faults, field_at, is_ref}
-use Rattle.k_frame.specs.k_types.Effects.{with_exit_of_store}
-use Rattle.k_frame.proofs.Lists.{below_any, get_or_inside}
-use Rattle.k_frame.proofs.OwnerOf.{owner_stands, owner_lives}
+use Rattle.k_types.specs.declared.event.Fault.TheVariants.{Foreign, NoField, WrongKind, Frozen, Segv}
+use Rattle.k_types.specs.declared.names.Field.TheVariants.{Ref}
+use Rattle.k_types.specs.Replies.{first_fault, access_faults, is_foreign, sharer_fault, passes_barrier, store_faults, field_at, is_ref}
+use Rattle.k_types.specs.Effects.{with_exit_of_store}
+use Rattle.k_types.proofs.Lists.{below_any, get_or_inside}
+use Rattle.k_laws.proofs.OwnerOf.{owner_stands, owner_lives}
 use Rattle.k_laws.proofs.SoundExit.{add_exit_sound, exit_there}
 use Rattle.k_laws.proofs.SoundWrite.{write_sound}
-use Rattle.k_frame.proofs.FrameSteps.{none_on, none_first, owner_linked}
-use Rattle.k_frame.proofs.Owners.{owner_known}
+use Rattle.k_laws.proofs.FrameSteps.{none_on, none_first, owner_linked}
+use Rattle.k_types.proofs.Owners.{owner_known}
 
 -- a number above 0 stands inside the list
 pub get_or_above : (xs : List ℕ) (k : ℕ) → 0 < get_or xs k 0 → k < length xs

@@ -1,20 +1,20 @@
 -- A sound state stays sound where a field is written.
 use Rattle.std.proofs.Common.{◌≡◌, ℕ, sym, ap, ◌∙◌, inl, inr, map, IsTrue, IsFalse}
 use Rattle.std.proofs.Math.Path.{fun_ext}
-use Rattle.k_frame.specs.k_types.declared.names.Name.{Name}
-use Rattle.k_frame.specs.k_types.Names.{heap_eq, directory}
-use Rattle.k_frame.specs.k_types.Trace.{Trace}
-use Rattle.k_frame.specs.k_types.State.{State, Content, has, field_kind, content_leads_to, has_exit}
-use Rattle.k_frame.specs.k_types.Owners.{owner_of, bytes_of, charge_by}
-use Rattle.k_frame.specs.k_types.Limits.{limits_in, use_by, use_of}
-use Rattle.k_frame.specs.k_types.Reach.{is_entered, is_held}
-use Rattle.k_frame.specs.k_types.Replies.{field_at}
-use Rattle.k_frame.specs.k_types.Updates.{write, object_after_write}
-use Rattle.k_frame.specs.k_types.Sound.{IsSound, IsLegalStore}
-use Rattle.k_frame.proofs.Objects.{has-written, refers_in-written}
-use Rattle.k_frame.proofs.Bytes.{bytes-written}
+use Rattle.k_types.specs.declared.names.Name.{Name}
+use Rattle.k_types.specs.Names.{heap_eq, directory}
+use Rattle.k_types.specs.Trace.{Trace}
+use Rattle.k_types.specs.State.{State, Content, has, field_kind, content_leads_to, has_exit}
+use Rattle.k_types.specs.Owners.{owner_of, bytes_of, charge_by}
+use Rattle.k_types.specs.Limits.{limits_in, use_by, use_of}
+use Rattle.k_types.specs.Reach.{is_entered, is_held}
+use Rattle.k_types.specs.Replies.{field_at}
+use Rattle.k_types.specs.Updates.{write, object_after_write}
+use Rattle.k_types.specs.Sound.{IsSound, IsLegalStore}
+use Rattle.k_types.proofs.Objects.{has-written, refers_in-written}
+use Rattle.k_laws.proofs.Bytes.{bytes-written}
 use Rattle.k_laws.proofs.Shapes.{typed-written}
-use Rattle.k_frame.proofs.Ordered.{ordered-written}
+use Rattle.k_types.proofs.Ordered.{ordered-written}
 
 -- what a field may be given
 pub record MayRefer (trace : Trace) (st : State) (x : Name) (i : ℕ) (c : Content) : Type 0 where

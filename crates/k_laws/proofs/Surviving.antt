@@ -2,19 +2,19 @@
 use Rattle.std.proofs.Common.{◌≡◌, ◌≢◌, ℕ, not, ◌&&◌, ◌||◌, ◌⊎◌, Bool, true, false, cond, refl, sym, ap, ◌∙◌, inl, inr, List, [], ◌∷◌, Option, Some, None, IsTrue, IsFalse}
 use Rattle.std.specs.List.{list_any}
 use Rattle.std.proofs.lemmas.Bool.{and_parts, and_from, or_cases, or_left, or_right, false≢true, not_from_false}
-use Rattle.k_frame.specs.k_types.declared.names.Name.{Name}
-use Rattle.k_frame.specs.k_types.declared.names.Heap.{Heap}
-use Rattle.k_frame.specs.k_types.Names.{heap_eq, name_eq, leads_to}
-use Rattle.k_frame.specs.k_types.Trace.{Trace}
-use Rattle.k_frame.specs.k_types.State.{State, ExitItem, has, has_exit, has_share, object_at, scan_of}
-use Rattle.k_frame.specs.k_types.Owners.{owner_of, user, shared}
-use Rattle.k_frame.specs.k_types.Updates.{keep_objects, keep_exits, keep_shares, close_scan}
-use Rattle.k_frame.specs.k_types.Effects.{after_ended, survives, exit_stays, share_stays, register_lies_in, registers_of, lies_in}
-use Rattle.k_frame.specs.k_types.Sound.{IsSound}
+use Rattle.k_types.specs.declared.names.Name.{Name}
+use Rattle.k_types.specs.declared.names.Heap.{Heap}
+use Rattle.k_types.specs.Names.{heap_eq, name_eq, leads_to}
+use Rattle.k_types.specs.Trace.{Trace}
+use Rattle.k_types.specs.State.{State, ExitItem, has, has_exit, has_share, object_at, scan_of}
+use Rattle.k_types.specs.Owners.{owner_of, user, shared}
+use Rattle.k_types.specs.Updates.{keep_objects, keep_exits, keep_shares, close_scan}
+use Rattle.k_types.specs.Effects.{after_ended, survives, exit_stays, share_stays, register_lies_in, registers_of, lies_in}
+use Rattle.k_types.specs.Sound.{IsSound}
 use Rattle.k_laws.specs.Survivors.{KeepsTheSurvivors, HasWayInto}
-use Rattle.k_frame.proofs.NameTests.{name_eq-true, name_eq_refl, heap_eq-true, heap_eq_refl, heap_eq-same, heap_eq-false}
-use Rattle.k_frame.proofs.Objects.{has-kept, object_at-kept}
-use Rattle.k_frame.proofs.Kept.{has_exit-kept, has_share-kept, scan_closed, exit_is}
+use Rattle.k_types.proofs.NameTests.{name_eq-true, name_eq_refl, heap_eq-true, heap_eq_refl, heap_eq-same, heap_eq-false}
+use Rattle.k_types.proofs.Objects.{has-kept, object_at-kept}
+use Rattle.k_laws.proofs.Kept.{has_exit-kept, has_share-kept, scan_closed, exit_is}
 use Rattle.k_laws.proofs.Turned.{some_element}
 use Rattle.k_laws.proofs.Means.{exit_needed, exit_there_still}
 

@@ -2,18 +2,18 @@
 use Rattle.std.proofs.Common.{◌≡◌, ℕ, ◌⊎◌, ◌&&◌, ◌||◌, not, Bool, true, false, cond, refl, sym, ap, ap₂, ◌∙◌, inl, inr, List, [], ◌∷◌, Option, Some, None, IsTrue, IsFalse, filter_map}
 use Rattle.std.specs.List.{list_any, cons_option}
 use Rattle.std.proofs.lemmas.Bool.{and_parts, and_from, or_left, or_right, or_cases, not-true, false≢true, cases_Bool, not_from_false}
-use Rattle.k_frame.specs.k_types.declared.names.Name.{Name}
-use Rattle.k_frame.specs.k_types.declared.names.Heap.{Heap}
-use Rattle.k_frame.specs.k_types.declared.names.Heap.TheVariants.{Kernel, User, Shared}
-use Rattle.k_frame.specs.k_types.Names.{name_eq, heap_eq}
-use Rattle.k_frame.specs.k_types.Trace.{Trace}
-use Rattle.k_frame.specs.k_types.State.{State, ExitItem, has_exit}
-use Rattle.k_frame.specs.k_types.Owners.{owner_of, user}
-use Rattle.k_frame.specs.k_types.Sound.{IsSound}
-use Rattle.k_frame.proofs.NameTests.{name_eq_refl, name_eq-true, heap_eq-true, heap_eq_refl}
-use Rattle.k_frame.specs.k_types.Reach.{is_shared_heap}
-use Rattle.k_frame.specs.k_types.Effects.{exit_after}
-use Rattle.k_frame.proofs.Kept.{exit_is}
+use Rattle.k_types.specs.declared.names.Name.{Name}
+use Rattle.k_types.specs.declared.names.Heap.{Heap}
+use Rattle.k_types.specs.declared.names.Heap.TheVariants.{Kernel, User, Shared}
+use Rattle.k_types.specs.Names.{name_eq, heap_eq}
+use Rattle.k_types.specs.Trace.{Trace}
+use Rattle.k_types.specs.State.{State, ExitItem, has_exit}
+use Rattle.k_types.specs.Owners.{owner_of, user}
+use Rattle.k_types.specs.Sound.{IsSound}
+use Rattle.k_types.proofs.NameTests.{name_eq_refl, name_eq-true, heap_eq-true, heap_eq_refl}
+use Rattle.k_types.specs.Reach.{is_shared_heap}
+use Rattle.k_types.specs.Effects.{exit_after}
+use Rattle.k_laws.proofs.Kept.{exit_is}
 
 -- an element that passes, with what holds of any that passes it
 pub some_element : {A : Type 0} (q : A → Bool) (xs : List A) → list_any q xs ≡ true → (x : A) × (q x ≡ true) × ((r : A → Bool) → r x ≡ true → list_any r xs ≡ true)

@@ -1,15 +1,15 @@
 -- The uses are a function of the book's part.
 use Rattle.std.proofs.Common.{◌≡◌, ℕ, zero, suc, ◌+◌, ◌<◌, cond, refl, sym, ap, ap₂, ◌∙◌, List, length, map, arith, get_or}
-use Rattle.k_frame.specs.k_types.Numbers.{numbers_below}
-use Rattle.k_frame.specs.k_types.declared.setup.LimitRow.{LimitRow}
-use Rattle.k_frame.specs.k_types.Trace.{Trace, row_of}
-use Rattle.k_frame.specs.k_types.State.{State}
-use Rattle.k_frame.specs.k_types.Owners.{charge_of}
-use Rattle.k_frame.specs.k_types.Limits.{direct_by, is_parent, limits_in, max_of, use_of, use_within}
-use Rattle.k_frame.specs.k_types.Cells.{book_part, use_shown}
-use Rattle.k_frame.proofs.Exact.{same_below}
-use Rattle.k_frame.proofs.Maxima.{length_in}
-use Rattle.k_frame.proofs.Lists.{get_mapped}
+use Rattle.k_types.specs.Numbers.{numbers_below}
+use Rattle.k_types.specs.declared.setup.LimitRow.{LimitRow}
+use Rattle.k_types.specs.Trace.{Trace, row_of}
+use Rattle.k_types.specs.State.{State}
+use Rattle.k_types.specs.Owners.{charge_of}
+use Rattle.k_types.specs.Limits.{direct_by, is_parent, limits_in, max_of, use_of, use_within}
+use Rattle.k_types.specs.Cells.{book_part, use_shown}
+use Rattle.k_laws.proofs.Exact.{same_below}
+use Rattle.k_types.proofs.Maxima.{length_in}
+use Rattle.k_types.proofs.Lists.{get_mapped}
 
 use_same : (rows : List LimitRow) (d e : ℕ → ℕ) → ((m : ℕ) → m < length rows → d m ≡ e m) → (depth m : ℕ) → m < length rows → use_within rows d depth m ≡ use_within rows e depth m
 unfolding use_within

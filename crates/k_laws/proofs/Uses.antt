@@ -1,18 +1,17 @@
 -- What is used where less is charged.
 use Rattle.std.proofs.Common.{◌≡◌, ℕ, zero, suc, ◌+◌, ◌≤◌, ◌==◌, Bool, true, false, cond, refl, List, [], ◌∷◌, filter, arith, le_refl, length, zero-le}
-use Rattle.k_frame.specs.k_types.Totals.{total}
+use Rattle.k_types.specs.Totals.{total}
 use Rattle.std.proofs.lemmas.Bool.{false≢true}
-use Rattle.k_frame.specs.k_types.declared.names.Heap.{Heap}
-use Rattle.k_frame.specs.k_types.declared.setup.LimitRow.{LimitRow}
-use Rattle.k_frame.specs.k_types.Names.{among}
-use Rattle.k_frame.specs.k_types.Trace.{Trace, limit_of, process_count}
-use Rattle.k_frame.specs.k_types.State.{Sharing}
-use Rattle.k_frame.specs.k_types.Owners.{charge_by, user, shared}
-use Rattle.k_frame.specs.k_types.Trace.{row_of}
-use Rattle.k_frame.specs.k_types.Numbers.{numbers_below}
-use Rattle.k_frame.specs.k_types.Limits.{use_within, use_by, direct_by, children, max_of}
-use Rattle.k_frame.proofs.Kept.{sum-fewer, filter_swap}
-use Rattle.k_frame.proofs.Sums.{total_at_most}
+use Rattle.k_types.specs.declared.names.Heap.{Heap}
+use Rattle.k_types.specs.declared.setup.LimitRow.{LimitRow}
+use Rattle.k_types.specs.Names.{among}
+use Rattle.k_types.specs.Trace.{Trace, limit_of, process_count, row_of}
+use Rattle.k_types.specs.State.{Sharing}
+use Rattle.k_types.specs.Owners.{charge_by, user, shared}
+use Rattle.k_types.specs.Numbers.{numbers_below}
+use Rattle.k_types.specs.Limits.{use_within, use_by, direct_by, children, max_of}
+use Rattle.k_laws.proofs.Kept.{sum-fewer, filter_swap}
+use Rattle.k_types.proofs.Sums.{total_at_most}
 
 pub use_less : (rows : List LimitRow) (d e : ℕ → ℕ) → ((m : ℕ) → d m ≤ e m) → (depth m : ℕ) → use_within rows d depth m ≤ use_within rows e depth m
 unfolding use_within

@@ -1,14 +1,14 @@
 -- By how much the uses rise where a process is charged more.
 use Rattle.std.proofs.Common.{◌≡◌, ℕ, ◌+◌, ◌*◌, ◌<◌, ◌==◌, Bool, true, false, cond, sym, ap, ◌∙◌, length, arith, subst, if◌then◌else◌}
-use Rattle.k_frame.specs.k_types.Names.{among}
-use Rattle.k_frame.specs.k_types.Trace.{Trace, process_count, limit_of}
-use Rattle.k_frame.specs.k_types.TraceRules.{AreLimits}
-use Rattle.k_frame.specs.k_types.State.{State}
-use Rattle.k_frame.specs.k_types.Limits.{limits_in, use_by, direct_by, path_of}
-use Rattle.k_frame.proofs.Charges.{use_added}
-use Rattle.k_frame.proofs.Sums.{bit}
-use Rattle.k_frame.proofs.Exact.{counted_exact}
-use Rattle.k_frame.proofs.Maxima.{length_in, tree_in}
+use Rattle.k_types.specs.Names.{among}
+use Rattle.k_types.specs.Trace.{Trace, process_count, limit_of}
+use Rattle.k_types.specs.TraceRules.{AreLimits}
+use Rattle.k_types.specs.State.{State}
+use Rattle.k_types.specs.Limits.{limits_in, use_by, direct_by, path_of}
+use Rattle.k_types.proofs.Charges.{use_added}
+use Rattle.k_types.proofs.Sums.{bit}
+use Rattle.k_laws.proofs.Exact.{counted_exact}
+use Rattle.k_types.proofs.Maxima.{length_in, tree_in}
 use Rattle.k_laws.proofs.Raised.{direct_added}
 
 pub times : (b : Bool) (n : ℕ) → n * bit b ≡ cond b n 0

@@ -1,15 +1,15 @@
 -- What operations charge.
 use Rattle.std.specs.Prelude.{ℕ, Bool, false, ◌==◌, Option, Some, None, if◌then◌else◌}
-use Rattle.k_frame.specs.k_types.declared.names.Heap.TheVariants.{Shared}
-use Rattle.k_frame.specs.k_types.declared.op.Op.{Op}
-use Rattle.k_frame.specs.k_types.declared.op.Op.TheVariants.{New, KNew, SNew, Store, Load, Move, Clear, Dir, Put, Get, Collect, KCollect, Share, Freeze, Attach, Exit, Kill, Resize}
-use Rattle.k_frame.specs.k_types.declared.event.Fault.{Fault}
-use Rattle.k_frame.specs.k_types.declared.event.Event.{Event}
-use Rattle.k_frame.specs.k_types.declared.event.Event.TheVariants.{Done}
-use Rattle.k_frame.specs.k_types.Trace.{Trace, size_of_type}
-use Rattle.k_frame.specs.k_types.State.{State, has_share}
-use Rattle.k_frame.specs.k_types.Owners.{bytes_of}
-use Rattle.k_frame.specs.k_types.Replies.{faults, first_fault}
+use Rattle.k_types.specs.declared.names.Heap.TheVariants.{Shared}
+use Rattle.k_types.specs.declared.op.Op.{Op}
+use Rattle.k_types.specs.declared.op.Op.TheVariants.{New, KNew, SNew, Store, Load, Move, Clear, Dir, Put, Get, Collect, KCollect, Share, Freeze, Attach, Exit, Kill, Resize}
+use Rattle.k_types.specs.declared.event.Fault.{Fault}
+use Rattle.k_types.specs.declared.event.Event.{Event}
+use Rattle.k_types.specs.declared.event.Event.TheVariants.{Done}
+use Rattle.k_types.specs.Trace.{Trace, size_of_type}
+use Rattle.k_types.specs.State.{State, has_share}
+use Rattle.k_types.specs.Owners.{bytes_of}
+use Rattle.k_types.specs.Replies.{faults, first_fault}
 
 -- the bytes that the operation adds to what its process is charged, where it isn't refused
 abbrev pub bytes_charged : Trace → State → ℕ → Op → ℕ

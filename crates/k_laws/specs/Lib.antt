@@ -1,3 +1,6 @@
+pub mod PartUpdates
+pub mod Alike
+pub mod Tails
 pub mod Changes
 pub mod Meaning
 pub mod Parts
@@ -6,7 +9,24 @@ pub mod Termination
 pub mod Resizing
 pub mod Refusals
 pub mod Survivors
-pub use Rattle.k_frame.specs.PartUpdates
-pub use Rattle.k_frame.specs.k_base
-pub use Rattle.k_frame.specs as k_frame
-pub use Rattle.k_frame.specs.k_types
+pub mod Setups
+pub mod Counts
+pub mod CellChanges
+pub mod BookChanges
+pub mod Roots
+pub mod Told
+pub mod Reclaimed
+pub mod Same
+pub mod Kept
+pub mod Reached
+pub mod Fits
+pub mod CellAfter
+pub mod BookAfter
+pub mod Answers
+pub mod Touches
+pub mod Locals
+pub mod Follows
+pub mod Owed
+pub mod Lawful
+pub mod Live
+pub use Rattle.k_types.specs as k_types

@@ -1,7 +1,7 @@
 -- By what operations may be refused.
 use Rattle.std.specs.Prelude.{Bool, true, false}
-use Rattle.k_frame.specs.k_types.declared.event.Fault.{Fault}
-use Rattle.k_frame.specs.k_types.declared.event.Fault.TheVariants.{Null, Foreign, NotSharer, NoField, WrongKind, Frozen, Segv}
+use Rattle.k_types.specs.declared.event.Fault.{Fault}
+use Rattle.k_types.specs.declared.event.Fault.TheVariants.{Null, Foreign, NotSharer, NoField, WrongKind, Frozen, Segv}
 
 -- the faults of the base, of the field, of freezing and of the barrier
 abbrev pub is_fault_of_store : Fault → Bool

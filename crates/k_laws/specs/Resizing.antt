@@ -1,11 +1,11 @@
 -- What another maximum of a limit leaves.
 use Rattle.std.specs.Prelude.{◌≡◌, ◌≢◌, ℕ, ◌+◌, Bool, true, false, Option, Some, None, if◌then◌else◌}
-use Rattle.k_frame.specs.k_types.declared.names.LimitId.{LimitId}
-use Rattle.k_frame.specs.k_types.Names.{among}
-use Rattle.k_frame.specs.k_types.Trace.{Trace, row_of}
-use Rattle.k_frame.specs.k_types.State.{State}
-use Rattle.k_frame.specs.k_types.Owners.{charge_of}
-use Rattle.k_frame.specs.k_types.Limits.{limits_in, max_of, use_of, path_of}
+use Rattle.k_types.specs.declared.names.LimitId.{LimitId}
+use Rattle.k_types.specs.Names.{among}
+use Rattle.k_types.specs.Trace.{Trace, row_of}
+use Rattle.k_types.specs.State.{State}
+use Rattle.k_types.specs.Owners.{charge_of}
+use Rattle.k_types.specs.Limits.{limits_in, max_of, use_of, path_of}
 
 -- what a limit with this parent reserves counts at q: where it is hard, on the path of its parent
 abbrev pub reserves_by : Trace → State → Bool → Option LimitId → ℕ → Bool

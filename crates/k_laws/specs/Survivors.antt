@@ -1,14 +1,14 @@
 -- What the end of a collection leaves.
 use Rattle.std.specs.Prelude.{◌≡◌, ◌≢◌, ℕ, IsTrue, IsFalse, not, ◌&&◌, ◌||◌, ◌⊎◌, ◌↔◌, None, if◌then◌else◌}
-use Rattle.k_frame.specs.k_types.declared.names.Name.{Name}
-use Rattle.k_frame.specs.k_types.declared.names.Heap.{Heap}
-use Rattle.k_frame.specs.k_types.Names.{heap_eq}
-use Rattle.k_frame.specs.k_types.Trace.{Trace}
-use Rattle.k_frame.specs.k_types.State.{State, has, has_exit, has_share, in_registers, object_at, refers_in, scan_of}
-use Rattle.k_frame.specs.k_types.Owners.{owner_of, user, shared, phase_of}
-use Rattle.k_frame.specs.k_types.Reach.{reach_in}
-use Rattle.k_frame.specs.k_types.Replies.{is_populating}
-use Rattle.k_frame.specs.k_types.Effects.{open_roots}
+use Rattle.k_types.specs.declared.names.Name.{Name}
+use Rattle.k_types.specs.declared.names.Heap.{Heap}
+use Rattle.k_types.specs.Names.{heap_eq}
+use Rattle.k_types.specs.Trace.{Trace}
+use Rattle.k_types.specs.State.{State, has, has_exit, has_share, in_registers, object_at, refers_in, scan_of}
+use Rattle.k_types.specs.Owners.{owner_of, user, shared, phase_of}
+use Rattle.k_types.specs.Reach.{reach_in}
+use Rattle.k_types.specs.Replies.{is_populating}
+use Rattle.k_types.specs.Effects.{open_roots}
 
 -- an object of the heap refers to one that the heap doesn't own
 pub record RefersOut (trace : Trace) (st : State) (h : Heap) (n : Name) : Type 0 where

@@ -1,14 +1,14 @@
 -- What the end of a process leaves.
 use Rattle.std.specs.Prelude.{◌≡◌, ◌≢◌, ℕ, ◌+◌, ◌==◌, ◌||◌, IsTrue, IsFalse, ◌&&◌, ◌⊎◌, [], slice_index_or, replicate, None, false, if◌then◌else◌}
-use Rattle.k_frame.specs.k_types.declared.names.Name.{Name}
-use Rattle.k_frame.specs.k_types.declared.names.Heap.{Heap}
-use Rattle.k_frame.specs.k_types.declared.names.Heap.TheVariants.{Kernel}
-use Rattle.k_frame.specs.k_types.Names.{heap_eq, among}
-use Rattle.k_frame.specs.k_types.Trace.{Trace, limit_of}
-use Rattle.k_frame.specs.k_types.State.{State, has_exit, has_share}
-use Rattle.k_frame.specs.k_types.Owners.{owner_of, user, charge_of}
-use Rattle.k_frame.specs.k_types.Limits.{limits_in, use_of, path_of}
-use Rattle.k_frame.specs.k_types.Reach.{is_shared_heap}
+use Rattle.k_types.specs.declared.names.Name.{Name}
+use Rattle.k_types.specs.declared.names.Heap.{Heap}
+use Rattle.k_types.specs.declared.names.Heap.TheVariants.{Kernel}
+use Rattle.k_types.specs.Names.{heap_eq, among}
+use Rattle.k_types.specs.Trace.{Trace, limit_of}
+use Rattle.k_types.specs.State.{State, has_exit, has_share}
+use Rattle.k_types.specs.Owners.{owner_of, user, charge_of}
+use Rattle.k_types.specs.Limits.{limits_in, use_of, path_of}
+use Rattle.k_types.specs.Reach.{is_shared_heap}
 
 -- the process was charged this, and is charged nothing now: the use of each limit on the path of its limit has fallen by it,
 -- and every other limit's use and every other process's charge is as it was

@@ -2,25 +2,25 @@
 ghost use Rattle.std.specs.Prelude.{IsFalse, List, if◌then◌else◌, length, ◌+◌, ◌<◌, ◌==◌, ◌≡◌, ◌≤◌, ℕ};
 ghost use Rattle.k_laws.specs.Charges.{bytes_added, is_done_by};
 ghost use Rattle.k_laws.specs.Resizing.{MovesTheReservation};
-ghost use Rattle.k_frame.specs.k_types.Effects.{step};
-ghost use Rattle.k_frame.specs.k_types.Limits.{limits_in, max_of, path_of, use_of, use_within};
-ghost use Rattle.k_frame.specs.k_types.Names.{among};
-ghost use Rattle.k_frame.specs.k_types.Owners.{charge_of};
-ghost use Rattle.k_frame.specs.k_types.Sound.{IsSound};
-ghost use Rattle.k_frame.specs.k_types.State.{State};
-ghost use Rattle.k_frame.specs.k_types.Steps.{IsLegalHistory, IsPossible, state_after};
-ghost use Rattle.k_frame.specs.k_types.Trace.{Trace, limit_of};
-ghost use Rattle.k_frame.specs.k_types.TraceRules.{AreLimits, IsTree, ends_a_process, is_resize};
-ghost use Rattle.k_frame.specs.k_types.declared.event.Event.{Event};
-ghost use Rattle.k_frame.specs.k_types.declared.event.Event.TheVariants.{Done};
-ghost use Rattle.k_frame.specs.k_types.declared.event.Reply.{Reply};
-ghost use Rattle.k_frame.specs.k_types.declared.event.Reply.TheVariants.{Done as DoneReply};
-ghost use Rattle.k_frame.specs.k_types.declared.names.LimitId.{LimitId};
-ghost use Rattle.k_frame.specs.k_types.declared.names.Pid.{Pid};
-ghost use Rattle.k_frame.specs.k_types.declared.op.Op.{Op};
-ghost use Rattle.k_frame.specs.k_types.declared.op.Op.TheVariants.{Resize};
+ghost use Rattle.k_types.specs.Effects.{step};
+ghost use Rattle.k_types.specs.Limits.{limits_in, max_of, path_of, use_of, use_within};
+ghost use Rattle.k_types.specs.Names.{among};
+ghost use Rattle.k_types.specs.Owners.{charge_of};
+ghost use Rattle.k_types.specs.Sound.{IsSound};
+ghost use Rattle.k_types.specs.State.{State};
+ghost use Rattle.k_types.specs.Steps.{IsLegalHistory, IsPossible, state_after};
+ghost use Rattle.k_types.specs.Trace.{Trace, limit_of};
+ghost use Rattle.k_types.specs.TraceRules.{AreLimits, IsTree, ends_a_process, is_resize};
+ghost use Rattle.k_types.specs.declared.event.Event.{Event};
+ghost use Rattle.k_types.specs.declared.event.Event.TheVariants.{Done};
+ghost use Rattle.k_types.specs.declared.event.Reply.{Reply};
+ghost use Rattle.k_types.specs.declared.event.Reply.TheVariants.{Done as DoneReply};
+ghost use Rattle.k_types.specs.declared.names.LimitId.{LimitId};
+ghost use Rattle.k_types.specs.declared.names.Pid.{Pid};
+ghost use Rattle.k_types.specs.declared.op.Op.{Op};
+ghost use Rattle.k_types.specs.declared.op.Op.TheVariants.{Resize};
 
-use k_frame::{LimitRow, Op};
+use crate::{LimitRow, Op};
 
 /// A charge of n bytes at a limit raises the use of each limit on its path by n, and no other.
 ///

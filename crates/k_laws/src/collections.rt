@@ -1,17 +1,17 @@
 //! A collection keeps what is live, and nothing else.
 ghost use Rattle.std.specs.Prelude.{IsTrue, List, ◌∷◌, ◌++◌, ℕ};
 ghost use Rattle.k_laws.specs.Survivors.{KeepsTheSurvivors};
-ghost use Rattle.k_frame.specs.k_types.Effects.{step};
-ghost use Rattle.k_frame.specs.k_types.Reach.{live_everywhere};
-ghost use Rattle.k_frame.specs.k_types.Sound.{IsSound};
-ghost use Rattle.k_frame.specs.k_types.State.{State, has};
-ghost use Rattle.k_frame.specs.k_types.Steps.{IsLegalHistory, IsPossible, state_after};
-ghost use Rattle.k_frame.specs.k_types.Trace.{Trace};
-ghost use Rattle.k_frame.specs.k_types.TraceRules.{AreLimits};
-ghost use Rattle.k_frame.specs.k_types.declared.event.Event.{Event};
-ghost use Rattle.k_frame.specs.k_types.declared.event.Event.TheVariants.{Ended};
-ghost use Rattle.k_frame.specs.k_types.declared.names.Heap.{Heap};
-ghost use Rattle.k_frame.specs.k_types.declared.names.Name.{Name};
+ghost use Rattle.k_types.specs.Effects.{step};
+ghost use Rattle.k_types.specs.Reach.{live_everywhere};
+ghost use Rattle.k_types.specs.Sound.{IsSound};
+ghost use Rattle.k_types.specs.State.{State, has};
+ghost use Rattle.k_types.specs.Steps.{IsLegalHistory, IsPossible, state_after};
+ghost use Rattle.k_types.specs.Trace.{Trace};
+ghost use Rattle.k_types.specs.TraceRules.{AreLimits};
+ghost use Rattle.k_types.specs.declared.event.Event.{Event};
+ghost use Rattle.k_types.specs.declared.event.Event.TheVariants.{Ended};
+ghost use Rattle.k_types.specs.declared.names.Heap.{Heap};
+ghost use Rattle.k_types.specs.declared.names.Name.{Name};
 
 /// No collection frees a live object: wherever a collection ends in a legal history, each object that can still be used just before
 /// its end is there after it, whatever happened since the collection began.

@@ -1,26 +1,154 @@
-//! Laws of the one-thread machine: every state of a legal history is sound, and what follows from soundness. Each law is the
-//! contract of a public function with an empty body. Below stand the definitions of k_types and the laws of k_frame.
+//! Laws of the one-thread machine, for every trace: what a step leaves as it was and what it goes by; that every state of a legal
+//! history is sound, and what follows from soundness; how much a history can count; what exactly each event changes in the parts
+//! of the cells and of the book; what these parts tell of a state, of what is possible and of what is answered; and what complete
+//! histories leave.
+//!
+//! Each law is the contract of a public function with an empty body. Below stand the definitions of `k_types`. Beside the laws
+//! `proofs/` has the lemmas that the crates above cite, among them what the setup of a trace says without its operations.
 #![tactic(auto)]
 
+mod accounts;
+mod bounds;
 mod charges;
 mod collections;
+mod end_numbers;
+mod ends;
+mod events;
+mod filing;
+mod fits;
+mod frame;
+mod frozen_heaps;
+mod heaps;
+mod known;
+mod liveness;
+mod local_operations;
 mod meaning;
+mod names;
+mod numbers;
+mod objects;
+mod operations;
+mod owed;
+mod owners;
 mod parts;
+mod possible;
+mod processes;
+mod reached;
+mod reclamation;
 mod refusals;
+mod registers;
+mod replies;
+mod replies_told;
+mod roots;
+mod sharing;
 mod soundness;
+mod steps;
+mod targets;
+mod telling;
 mod termination;
+mod waiting;
 
-pub use charges::{
-    charges_go_up_the_path, nobody_raises_the_charge_of_another, operations_charge_their_process,
-    resizes_move_the_reservation, uses_fit,
-};
-pub use collections::{collections_free_nothing_live, collections_keep_exactly_the_survivors};
-pub use k_frame::{CellPhase, Event, Link, Name, NoMemory, Op, Pid, Seg, Serial, TypeId};
-pub use meaning::{
-    a_collection_reaches_within_its_heap, a_living_process_owns_its_segment_alone,
-    entered_objects_are_counted,
-};
+pub use accounts::ended_collections_credit_what_goes;
+pub use accounts::only_its_own_events_change_a_charge;
+pub use bounds::collections_end_once;
+pub use bounds::exit_items_are_at_most_the_stores;
+pub use bounds::heaps_are_absorbed_once;
+pub use bounds::histories_are_short;
+pub use bounds::objects_are_at_most_the_allocations;
+pub use bounds::operations_done_are_those_of_the_history;
+pub use bounds::pins_are_at_most_the_registers;
+pub use bounds::serials_are_at_most_the_allocations;
+pub use charges::charges_go_up_the_path;
+pub use charges::nobody_raises_the_charge_of_another;
+pub use charges::operations_charge_their_process;
+pub use charges::resizes_move_the_reservation;
+pub use charges::uses_fit;
+pub use collections::collections_free_nothing_live;
+pub use collections::collections_keep_exactly_the_survivors;
+pub use end_numbers::ended_collections_tell_what_goes;
+pub use ends::the_charge_is_told;
+pub use ends::what_absorption_changes_in_the_book;
+pub use ends::what_the_end_of_a_collection_changes_in_the_book;
+pub use ends::what_the_end_of_a_process_changes_in_the_book;
+pub use events::possible_events_are_lawful;
+pub use filing::the_file_order_is_legal_and_complete;
+pub use fits::ended_collections_are_bounded;
+pub use fits::objects_are_at_most_the_serials;
+pub use fits::objects_fit_their_types;
+pub use frame::histories_add_up;
+pub use frame::lists_keep_their_lengths;
+pub use frame::steps_leave_other_cells;
+pub use frame::untouched_processes_do_nothing;
+pub use frozen_heaps::frozen_heaps_keep_their_size;
+pub use heaps::what_absorption_changes_in_cells;
+pub use heaps::what_the_beginning_of_a_collection_changes;
+pub use heaps::what_the_end_of_a_collection_changes_in_its_cell;
+pub use heaps::what_the_end_of_a_process_changes_in_cells;
+pub use k_types::CellPhase;
+pub use k_types::Event;
+pub use k_types::LimitRow;
+pub use k_types::Link;
+pub use k_types::Name;
+pub use k_types::NoMemory;
+pub use k_types::Op;
+pub use k_types::Pid;
+pub use k_types::Seg;
+pub use k_types::Serial;
+pub use k_types::TypeId;
+pub use known::events_are_known;
+pub use known::tails_are_operations_alone;
+pub use liveness::what_is_live_is_the_least_closed_set;
+pub use local_operations::local_operations_go_by_their_cell;
+pub use local_operations::tails_follow;
+pub use meaning::a_collection_reaches_within_its_heap;
+pub use meaning::a_living_process_owns_its_segment_alone;
+pub use meaning::entered_objects_are_counted;
+pub use names::serials_are_never_given_again;
+pub use numbers::histories_do_the_operations_of_the_trace;
+pub use numbers::maxima_fit;
+pub use numbers::numbers_fit;
+pub use numbers::operations_are_ordered;
+pub use objects::what_a_new_exit_item_changes;
+pub use objects::what_a_new_object_changes_in_its_cell;
+pub use objects::what_a_new_object_changes_in_the_book;
+pub use objects::what_a_write_changes;
+pub use operations::kernel_collections_wait_for_orphans;
+pub use operations::refused_operations_only_count;
+pub use operations::scanned_heaps_are_left_alone;
+pub use owed::what_is_let_go_is_counted;
+pub use owners::ended_processes_stay_ended;
+pub use owners::owners_change_once;
 pub use parts::parts_determine_the_state;
+pub use possible::possible_events_go_by_the_parts;
+pub use processes::first_operations_are_those_up_to_done;
+pub use processes::first_operations_count_less;
+pub use processes::histories_count_by_process;
+pub use reached::reached_cells_change_at_most_once;
+pub use reclamation::ended_histories_leave_what_the_directory_reaches;
 pub use refusals::no_hidden_refusals;
-pub use soundness::{opening_is_sound, states_are_sound, steps_are_sound};
-pub use termination::{termination_credits_the_whole_charge, termination_leaves_the_rest};
+pub use registers::the_book_tells_the_owners;
+pub use registers::what_a_counted_operation_changes;
+pub use registers::what_a_register_changes;
+pub use replies::replies_go_by_the_parts;
+pub use replies::touched_cells_go_by_the_parts;
+pub use replies_told::local_operations_are_told;
+pub use replies_told::only_touched_cells_are_read;
+pub use replies_told::replies_are_told;
+pub use replies_told::touched_cells_are_told;
+pub use roots::a_collection_begins_from_its_cell_and_the_book;
+pub use sharing::what_a_new_maximum_changes;
+pub use sharing::what_a_new_share_changes;
+pub use sharing::what_a_phase_changes;
+pub use sharing::what_closing_changes;
+pub use soundness::opening_is_sound;
+pub use soundness::states_are_sound;
+pub use soundness::steps_are_sound;
+pub use steps::steps_go_by_the_parts;
+pub use steps::steps_show_in_the_parts;
+pub use targets::targets_sum_as_the_items;
+pub use telling::cells_tell_what_is_read_of_them;
+pub use telling::the_book_tells_what_fits;
+pub use termination::termination_credits_the_whole_charge;
+pub use termination::termination_leaves_the_rest;
+pub use waiting::operations_wait_for_scans_and_orphans_alone;
+pub use waiting::orphans_can_be_absorbed;
+pub use waiting::scans_are_of_the_heaps_of_the_trace;

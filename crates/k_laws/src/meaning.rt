@@ -1,17 +1,17 @@
 //! What registers, entries, pins and reaching mean in a sound state.
 ghost use Rattle.std.specs.Prelude.{IsFalse, IsTrue, List, Some, if◌then◌else◌, nat_lt, ◌<◌, ◌≡◌, ◌||◌, ◌↔◌, ℕ};
 ghost use Rattle.k_laws.specs.Meaning.{heaps_of};
-ghost use Rattle.k_frame.specs.k_types.Cells.{entries, pins};
-ghost use Rattle.k_frame.specs.k_types.Local.{is_own};
-ghost use Rattle.k_frame.specs.k_types.Names.{among};
-ghost use Rattle.k_frame.specs.k_types.Owners.{objects_of, owner_of, user};
-ghost use Rattle.k_frame.specs.k_types.Reach.{is_entered, reach_among, reach_in};
-ghost use Rattle.k_frame.specs.k_types.Sound.{IsSound};
-ghost use Rattle.k_frame.specs.k_types.State.{State, has_exit};
-ghost use Rattle.k_frame.specs.k_types.Totals.{total};
-ghost use Rattle.k_frame.specs.k_types.Trace.{Trace, process_count};
-ghost use Rattle.k_frame.specs.k_types.declared.names.Heap.{Heap};
-ghost use Rattle.k_frame.specs.k_types.declared.names.Name.{Name};
+ghost use Rattle.k_types.specs.Cells.{entries, pins};
+ghost use Rattle.k_types.specs.Local.{is_own};
+ghost use Rattle.k_types.specs.Names.{among};
+ghost use Rattle.k_types.specs.Owners.{objects_of, owner_of, user};
+ghost use Rattle.k_types.specs.Reach.{is_entered, reach_among, reach_in};
+ghost use Rattle.k_types.specs.Sound.{IsSound};
+ghost use Rattle.k_types.specs.State.{State, has_exit};
+ghost use Rattle.k_types.specs.Totals.{total};
+ghost use Rattle.k_types.specs.Trace.{Trace, process_count};
+ghost use Rattle.k_types.specs.declared.names.Heap.{Heap};
+ghost use Rattle.k_types.specs.declared.names.Name.{Name};
 
 /// A collection reaches what it reaches among its heap's own objects, in as many folds as these are.
 pub fn a_collection_reaches_within_its_heap()

@@ -1,11 +1,11 @@
 //! Sound states with the same parts are one state.
 ghost use Rattle.std.specs.Prelude.{length, ◌<◌, ◌≡◌, ℕ};
 ghost use Rattle.k_laws.specs.Parts.{SameParts, SameState};
-ghost use Rattle.k_frame.specs.k_types.Cells.{book_part, use_shown};
-ghost use Rattle.k_frame.specs.k_types.Limits.{use_of};
-ghost use Rattle.k_frame.specs.k_types.Sound.{IsSound};
-ghost use Rattle.k_frame.specs.k_types.State.{State};
-ghost use Rattle.k_frame.specs.k_types.Trace.{Trace};
+ghost use Rattle.k_types.specs.Cells.{book_part, use_shown};
+ghost use Rattle.k_types.specs.Limits.{use_of};
+ghost use Rattle.k_types.specs.Sound.{IsSound};
+ghost use Rattle.k_types.specs.State.{State};
+ghost use Rattle.k_types.specs.Trace.{Trace};
 
 /// The parts of all cells and of the book determine a sound state, except for the order of the lists of exit items, shares, ended
 /// processes and scans. The book's part alone tells the use of each limit.

@@ -1,20 +1,20 @@
 //! Which fault an operation is refused with.
 ghost use Rattle.std.specs.Prelude.{IsFalse, IsTrue, Some, ◌+◌, ◌<◌, ◌≡◌, ◌⊎◌, ℕ};
 ghost use Rattle.k_laws.specs.Refusals.{is_fault_of_store};
-ghost use Rattle.k_frame.specs.k_types.Limits.{full_limit};
-ghost use Rattle.k_frame.specs.k_types.Owners.{bytes_of, phase_of};
-ghost use Rattle.k_frame.specs.k_types.Replies.{is_populating, reply_to};
-ghost use Rattle.k_frame.specs.k_types.State.{State};
-ghost use Rattle.k_frame.specs.k_types.Trace.{Trace, limit_of, size_of_type};
-ghost use Rattle.k_frame.specs.k_types.declared.event.Fault.{Fault};
-ghost use Rattle.k_frame.specs.k_types.declared.event.Fault.TheVariants.{KernelFull, LimitFull, NotPopulating};
-ghost use Rattle.k_frame.specs.k_types.declared.event.Reply.TheVariants.{Refused};
-ghost use Rattle.k_frame.specs.k_types.declared.names.Heap.TheVariants.{Kernel};
-ghost use Rattle.k_frame.specs.k_types.declared.names.LimitId.{LimitId};
-ghost use Rattle.k_frame.specs.k_types.declared.names.Reg.{Reg};
-ghost use Rattle.k_frame.specs.k_types.declared.names.SharedId.{SharedId};
-ghost use Rattle.k_frame.specs.k_types.declared.names.TypeId.{TypeId};
-ghost use Rattle.k_frame.specs.k_types.declared.op.Op.TheVariants.{KNew, New, SNew, Store};
+ghost use Rattle.k_types.specs.Limits.{full_limit};
+ghost use Rattle.k_types.specs.Owners.{bytes_of, phase_of};
+ghost use Rattle.k_types.specs.Replies.{is_populating, reply_to};
+ghost use Rattle.k_types.specs.State.{State};
+ghost use Rattle.k_types.specs.Trace.{Trace, limit_of, size_of_type};
+ghost use Rattle.k_types.specs.declared.event.Fault.{Fault};
+ghost use Rattle.k_types.specs.declared.event.Fault.TheVariants.{KernelFull, LimitFull, NotPopulating};
+ghost use Rattle.k_types.specs.declared.event.Reply.TheVariants.{Refused};
+ghost use Rattle.k_types.specs.declared.names.Heap.TheVariants.{Kernel};
+ghost use Rattle.k_types.specs.declared.names.LimitId.{LimitId};
+ghost use Rattle.k_types.specs.declared.names.Reg.{Reg};
+ghost use Rattle.k_types.specs.declared.names.SharedId.{SharedId};
+ghost use Rattle.k_types.specs.declared.names.TypeId.{TypeId};
+ghost use Rattle.k_types.specs.declared.op.Op.TheVariants.{KNew, New, SNew, Store};
 
 /// Nothing is refused for a reason that its operation does not name. A store is refused only for its base, its field, a frozen heap or the barrier, so never for memory, a
 /// limit or the number of exit items. An allocation is refused only where a limit on its path is full (that limit is named),

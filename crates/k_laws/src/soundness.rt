@@ -1,12 +1,12 @@
 //! Every state of a legal history is sound.
 ghost use Rattle.std.specs.Prelude.{List};
-ghost use Rattle.k_frame.specs.k_types.Effects.{step};
-ghost use Rattle.k_frame.specs.k_types.Sound.{IsSound};
-ghost use Rattle.k_frame.specs.k_types.State.{State, opening};
-ghost use Rattle.k_frame.specs.k_types.Steps.{IsLegalHistory, IsPossible, state_after};
-ghost use Rattle.k_frame.specs.k_types.Trace.{Trace};
-ghost use Rattle.k_frame.specs.k_types.TraceRules.{AreLimits};
-ghost use Rattle.k_frame.specs.k_types.declared.event.Event.{Event};
+ghost use Rattle.k_types.specs.Effects.{step};
+ghost use Rattle.k_types.specs.Sound.{IsSound};
+ghost use Rattle.k_types.specs.State.{State, opening};
+ghost use Rattle.k_types.specs.Steps.{IsLegalHistory, IsPossible, state_after};
+ghost use Rattle.k_types.specs.Trace.{Trace};
+ghost use Rattle.k_types.specs.TraceRules.{AreLimits};
+ghost use Rattle.k_types.specs.declared.event.Event.{Event};
 
 /// The opening state of a trace is sound.
 pub fn opening_is_sound()

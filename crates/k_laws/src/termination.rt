@@ -1,22 +1,22 @@
 //! What the end of a process leaves, credits and passes on.
 ghost use Rattle.std.specs.Prelude.{IsTrue, ◌<◌, ◌↔◌, ◌≡◌, ℕ, ◌≢◌};
 ghost use Rattle.k_laws.specs.Termination.{CreditsTheCharge, LeavesTheRest, StaysOrPasses};
-ghost use Rattle.k_frame.specs.k_types.Effects.{after_end_of, step};
-ghost use Rattle.k_frame.specs.k_types.Names.{among};
-ghost use Rattle.k_frame.specs.k_types.Replies.{ends_other};
-ghost use Rattle.k_frame.specs.k_types.Sound.{IsSound};
-ghost use Rattle.k_frame.specs.k_types.State.{State, has_exit};
-ghost use Rattle.k_frame.specs.k_types.Steps.{IsPossible};
-ghost use Rattle.k_frame.specs.k_types.Trace.{Trace, process_count};
-ghost use Rattle.k_frame.specs.k_types.TraceRules.{AreLimits};
-ghost use Rattle.k_frame.specs.k_types.Updates.{count_done};
-ghost use Rattle.k_frame.specs.k_types.declared.event.Event.TheVariants.{Done};
-ghost use Rattle.k_frame.specs.k_types.declared.event.Reply.{Reply};
-ghost use Rattle.k_frame.specs.k_types.declared.names.Heap.{Heap};
-ghost use Rattle.k_frame.specs.k_types.declared.names.Name.{Name};
-ghost use Rattle.k_frame.specs.k_types.declared.names.Pid.{Pid};
-ghost use Rattle.k_frame.specs.k_types.declared.op.Op.TheVariants.{Exit, Kill};
-ghost use Rattle.k_frame.specs.k_types.Limits.{is_above};
+ghost use Rattle.k_types.specs.Effects.{after_end_of, step};
+ghost use Rattle.k_types.specs.Names.{among};
+ghost use Rattle.k_types.specs.Replies.{ends_other};
+ghost use Rattle.k_types.specs.Sound.{IsSound};
+ghost use Rattle.k_types.specs.State.{State, has_exit};
+ghost use Rattle.k_types.specs.Steps.{IsPossible};
+ghost use Rattle.k_types.specs.Trace.{Trace, process_count};
+ghost use Rattle.k_types.specs.TraceRules.{AreLimits};
+ghost use Rattle.k_types.specs.Updates.{count_done};
+ghost use Rattle.k_types.specs.declared.event.Event.TheVariants.{Done};
+ghost use Rattle.k_types.specs.declared.event.Reply.{Reply};
+ghost use Rattle.k_types.specs.declared.names.Heap.{Heap};
+ghost use Rattle.k_types.specs.declared.names.Name.{Name};
+ghost use Rattle.k_types.specs.declared.names.Pid.{Pid};
+ghost use Rattle.k_types.specs.declared.op.Op.TheVariants.{Exit, Kill};
+ghost use Rattle.k_types.specs.Limits.{is_above};
 ghost use Rattle.k_laws.specs.Changes.{MayExit};
 
 /// The end of a process, by its `exit` or by a `kill` that ends it, credits its whole charge: the use of each limit on the path of

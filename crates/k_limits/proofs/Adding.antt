@@ -1,11 +1,11 @@
 -- The facts on a row that is put after the others, as the code meets them.
 use Rattle.std.proofs.Common.{◌≡◌, ℕ, ◌+◌, ◌*◌, ◌^◌, ◌<◌, Bool, false, ap, ◌∙◌, sym, subst, List, [], ◌∷◌, ◌++◌, length, find, slice_index, Option, option_map, is_some, arith}
-use Rattle.k_base.specs.k_types.declared.names.LimitId.{LimitId}
-use Rattle.k_base.specs.k_types.declared.setup.LimitRow.{LimitRow}
+use Rattle.k_types.specs.declared.names.LimitId.{LimitId}
+use Rattle.k_types.specs.declared.setup.LimitRow.{LimitRow}
 use Rattle.k_limits.specs.Limits.{ChargedLimits, charged_limits, is_full_at}
 use Rattle.k_limits.specs.Rows.{AreRows, is_refused}
 use Rattle.k_limits.specs.Paths.{InRows, is_over, path_from, reserved_from, times_on, AreUses}
-use Rattle.k_base.proofs.Lists.{mapped_some, none_is}
+use Rattle.k_types.proofs.Lists.{mapped_some, none_is}
 use Rattle.k_limits.proofs.Reserves.{reserved_in, max_small, raise_small_from, found_from, refused_is, added}
 
 pub rows_in : (limits seen : ChargedLimits) (row : LimitRow) → limits ≡ seen → AreRows (seen.rows ++ row ∷ []) → AreRows (limits.rows ++ row ∷ [])

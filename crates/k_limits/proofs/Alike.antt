@@ -1,8 +1,8 @@
 -- A tree of roots alone.
 use Rattle.std.proofs.Common.{◌≡◌, ◌<◌, ◌^◌, ℕ, zero, suc, refl, sym, ap, ◌∙◌, replicate, Some, None, arith}
 use Rattle.std.proofs.lemmas.List.{length-replicate}
-use Rattle.k_base.specs.k_types.declared.setup.LimitRow.{LimitRow}
-use Rattle.k_base.specs.k_types.Trace.{row_of}
+use Rattle.k_types.specs.declared.setup.LimitRow.{LimitRow}
+use Rattle.k_types.specs.Trace.{row_of}
 use Rattle.k_limits.specs.Rows.{AreRows}
 
 row_alike : (n m : ℕ) (row : LimitRow) → m < n → row_of (replicate n row) m ≡ row

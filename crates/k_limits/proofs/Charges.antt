@@ -2,16 +2,16 @@
 use Rattle.std.proofs.Common.{◌≡◌, ℕ, zero, suc, ◌+◌, ◌*◌, ◌<◌, ◌≤◌, ◌==◌, Bool, true, false, cond, refl, ap, ap₂, ◌∙◌, sym, List, length, Option, Some, None, arith}
 use Rattle.std.proofs.Math.Path.{fun_ext}
 use Rattle.std.proofs.lemmas.Bool.Decides.{nat_tests}
-use Rattle.k_base.specs.k_types.Totals.{total}
-use Rattle.k_base.specs.k_types.Numbers.{numbers_below}
-use Rattle.k_base.specs.k_types.declared.names.LimitId.{LimitId}
-use Rattle.k_base.specs.k_types.declared.setup.LimitRow.{LimitRow}
-use Rattle.k_base.specs.k_types.Trace.{row_of}
-use Rattle.k_base.specs.k_types.TraceRules.{IsTree}
-use Rattle.k_base.specs.k_types.Limits.{use_within, path_within, path_above, max_of, is_parent}
+use Rattle.k_types.specs.Totals.{total}
+use Rattle.k_types.specs.Numbers.{numbers_below}
+use Rattle.k_types.specs.declared.names.LimitId.{LimitId}
+use Rattle.k_types.specs.declared.setup.LimitRow.{LimitRow}
+use Rattle.k_types.specs.Trace.{row_of}
+use Rattle.k_types.specs.TraceRules.{IsTree}
+use Rattle.k_types.specs.Limits.{use_within, path_within, path_above, max_of, is_parent}
 use Rattle.k_limits.specs.Paths.{times_on}
-use Rattle.k_base.proofs.Sums.{bit, sum-filter, same_below}
-use Rattle.k_base.proofs.Charges.{soft, soft_one, soft_both, is_soft_child, not_soft_hard, soft_child, not_soft_top, bit_turned, counted, use_added}
+use Rattle.k_types.proofs.Sums.{bit, sum-filter, same_below}
+use Rattle.k_types.proofs.Charges.{soft, soft_one, soft_both, is_soft_child, not_soft_hard, soft_child, not_soft_top, bit_turned, counted, use_added}
 use Rattle.k_limits.proofs.Walks.{path_low}
 
 -- the same as a sum over all limits

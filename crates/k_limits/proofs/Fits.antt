@@ -2,16 +2,16 @@
 use Rattle.std.proofs.Common.{◌≡◌, ℕ, zero, suc, ◌+◌, ◌-◌, ◌*◌, ◌<◌, ◌≤◌, ◌↔◌, false, refl, ap, ◌∙◌, sym, subst, List, [], ◌∷◌, ◌++◌, length, take, find, replicate, slice_index, Option, Some, None, is_some, arith, inl, inr}
 use Rattle.std.proofs.Math.Seq.{take-length}
 use Rattle.std.proofs.lemmas.List.{length-replicate, get_or-replicate, take_more, replicate-append-replicate}
-use Rattle.k_base.specs.k_types.declared.names.LimitId.{LimitId}
-use Rattle.k_base.specs.k_types.declared.setup.LimitRow.{LimitRow}
-use Rattle.k_base.specs.k_types.Trace.{row_of, no_row}
-use Rattle.k_base.specs.k_types.TraceRules.{IsTree}
-use Rattle.k_base.specs.k_types.Limits.{max_of, use_within}
+use Rattle.k_types.specs.declared.names.LimitId.{LimitId}
+use Rattle.k_types.specs.declared.setup.LimitRow.{LimitRow}
+use Rattle.k_types.specs.Trace.{row_of, no_row}
+use Rattle.k_types.specs.TraceRules.{IsTree}
+use Rattle.k_types.specs.Limits.{max_of, use_within}
 use Rattle.k_limits.specs.Limits.{ChargedLimits, charged_limits, use_at, is_full_at}
 use Rattle.k_limits.specs.Rows.{uncharged, is_refused, first_refused}
 use Rattle.k_limits.specs.Paths.{InRows, path_from, reserved_from, times_on}
 use Rattle.k_limits.specs.Laws.{ReservesFit}
-use Rattle.k_base.proofs.Lists.{length_push}
+use Rattle.k_types.proofs.Lists.{length_push}
 use Rattle.k_limits.proofs.Uses.{cases_lt, room_for, none_full}
 use Rattle.k_limits.proofs.Reserves.{row_before, tree_before, reserved_in, refused_is, use_reserved, use_of_last}
 use Rattle.k_limits.proofs.Making.{none_from, find_none_from, take_tree}

@@ -9,7 +9,7 @@ pub mod Making
 pub mod MachineUses
 pub mod Fits
 pub mod Resizes
-pub use Rattle.k_base.proofs.Lists
-pub use Rattle.k_base.proofs.Maxima
-pub use Rattle.k_base.proofs.Sums
-pub use Rattle.k_base.proofs.Tests
+pub use Rattle.k_types.proofs.Lists
+pub use Rattle.k_types.proofs.Maxima
+pub use Rattle.k_types.proofs.Sums
+pub use Rattle.k_types.proofs.Tests

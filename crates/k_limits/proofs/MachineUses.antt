@@ -1,17 +1,17 @@
 -- The machine's uses, and those over a list of what is charged directly.
 use Rattle.std.proofs.Common.{◌≡◌, ℕ, zero, suc, ◌+◌, ◌<◌, nat_lt, cond, refl, ap, List, find, length, slice_index, arith}
-use Rattle.k_base.specs.k_types.Numbers.{numbers_below}
-use Rattle.k_base.specs.k_types.declared.setup.LimitRow.{LimitRow}
-use Rattle.k_base.specs.k_types.Trace.{Trace, row_of}
-use Rattle.k_base.specs.k_types.TraceRules.{IsTree}
-use Rattle.k_base.specs.k_types.State.{State}
-use Rattle.k_base.specs.k_types.Owners.{charge_of}
-use Rattle.k_base.specs.k_types.Limits.{max_of, is_parent, use_within, path_of, direct_by, with_maxima, limits_in, use_of, full_limit}
+use Rattle.k_types.specs.Numbers.{numbers_below}
+use Rattle.k_types.specs.declared.setup.LimitRow.{LimitRow}
+use Rattle.k_types.specs.Trace.{Trace, row_of}
+use Rattle.k_types.specs.TraceRules.{IsTree}
+use Rattle.k_types.specs.State.{State}
+use Rattle.k_types.specs.Owners.{charge_of}
+use Rattle.k_types.specs.Limits.{max_of, is_parent, use_within, path_of, direct_by, with_maxima, limits_in, use_of, full_limit}
 use Rattle.k_limits.specs.Limits.{use_at, is_full_at, full_at}
-use Rattle.k_base.specs.k_types.Cells.{BookPart, use_shown}
+use Rattle.k_types.specs.Cells.{BookPart, use_shown}
 use Rattle.k_limits.specs.Laws.{limits_of, limits_by, AreCharges}
-use Rattle.k_base.proofs.Sums.{sum-filter, same_below}
-use Rattle.k_base.proofs.Maxima.{length_in, tree_in}
+use Rattle.k_types.proofs.Sums.{sum-filter, same_below}
+use Rattle.k_types.proofs.Maxima.{length_in, tree_in}
 use Rattle.k_limits.proofs.Uses.{find_same, on_path_in}
 
 -- uses look at the charges of the tree's limits alone

@@ -3,10 +3,10 @@ use Rattle.std.proofs.Common.{◌≡◌, ℕ, zero, suc, ◌+◌, ◌<◌, ◌�
 use Rattle.std.proofs.Math.Seq.{take-length}
 use Rattle.std.proofs.lemmas.List.{get_or-take, length-take-le, take_more, replicate-append-replicate}
 use Rattle.std.specs.Result.{IsErrAnd}
-use Rattle.k_base.specs.k_types.Numbers.{numbers_from}
-use Rattle.k_base.specs.k_types.declared.setup.LimitRow.{LimitRow}
-use Rattle.k_base.specs.k_types.Trace.{row_of, no_row}
-use Rattle.k_base.specs.k_types.TraceRules.{IsTree}
+use Rattle.k_types.specs.Numbers.{numbers_from}
+use Rattle.k_types.specs.declared.setup.LimitRow.{LimitRow}
+use Rattle.k_types.specs.Trace.{row_of, no_row}
+use Rattle.k_types.specs.TraceRules.{IsTree}
 use Rattle.k_limits.specs.Limits.{ChargedLimits, charged_limits}
 use Rattle.k_limits.specs.Rows.{AreRows, uncharged, is_refused, first_refused, Explains, ExplainsRow}
 use Rattle.k_limits.specs.declared.error.MakeError.{MakeError}

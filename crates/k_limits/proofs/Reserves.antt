@@ -3,18 +3,18 @@ use Rattle.std.proofs.Common.{◌≡◌, ℕ, zero, suc, ◌+◌, ◌*◌, ◌^�
 use Rattle.std.proofs.Math.Path.{fun_ext}
 use Rattle.std.proofs.lemmas.Bool.{cases_eq}
 use Rattle.std.proofs.lemmas.List.{get_or_append_left, get_or-append-add, get_or_past}
-use Rattle.k_base.specs.k_types.Totals.{total}
-use Rattle.k_base.specs.k_types.Numbers.{numbers_from, numbers_below}
-use Rattle.k_base.specs.k_types.declared.names.LimitId.{LimitId}
-use Rattle.k_base.specs.k_types.declared.setup.LimitRow.{LimitRow}
-use Rattle.k_base.specs.k_types.Trace.{row_of, no_row}
-use Rattle.k_base.specs.k_types.TraceRules.{IsTree}
-use Rattle.k_base.specs.k_types.Limits.{use_within, max_of, is_parent}
+use Rattle.k_types.specs.Totals.{total}
+use Rattle.k_types.specs.Numbers.{numbers_from, numbers_below}
+use Rattle.k_types.specs.declared.names.LimitId.{LimitId}
+use Rattle.k_types.specs.declared.setup.LimitRow.{LimitRow}
+use Rattle.k_types.specs.Trace.{row_of, no_row}
+use Rattle.k_types.specs.TraceRules.{IsTree}
+use Rattle.k_types.specs.Limits.{use_within, max_of, is_parent}
 use Rattle.k_limits.specs.Limits.{ChargedLimits, charged_limits, use_at, is_full_at}
 use Rattle.k_limits.specs.Rows.{AreRows, is_refused, is_parent_full}
 use Rattle.k_limits.specs.Paths.{InRows, is_over, path_from, reserved_from, times_on, AreUses}
-use Rattle.k_base.proofs.Sums.{bit, sum-filter, same_below, zeros, total_append}
-use Rattle.k_base.proofs.Lists.{length_push, numbers_push}
+use Rattle.k_types.proofs.Sums.{bit, sum-filter, same_below, zeros, total_append}
+use Rattle.k_types.proofs.Lists.{length_push, numbers_push}
 use Rattle.k_limits.proofs.Charges.{neither, child_after, use_charged, use_deep}
 use Rattle.k_limits.proofs.Uses.{cases_lt, use_small, found_full, raise_small, room_for}
 

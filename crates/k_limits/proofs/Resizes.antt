@@ -2,11 +2,11 @@
 use Rattle.std.proofs.Common.{◌≡◌, ◌≢◌, ℕ, zero, suc, ◌+◌, ◌-◌, ◌*◌, ◌^◌, ◌<◌, ◌≤◌, ◌⊎◌, Bool, true, false, cond, refl, ap, ◌∙◌, sym, List, length, find, Option, Some, None, is_some, subst, slice_index, slice_set, arith, inl, inr, IsTrue, length-set}
 use Rattle.std.proofs.lemmas.Bool.{cases_eq, false≢true, lt-ltb, le-ltb}
 use Rattle.std.proofs.lemmas.List.{get_or-set_same, get_or-set_other}
-use Rattle.k_base.specs.k_types.declared.names.LimitId.{LimitId}
-use Rattle.k_base.specs.k_types.declared.setup.LimitRow.{LimitRow}
-use Rattle.k_base.specs.k_types.Trace.{row_of, no_row}
-use Rattle.k_base.specs.k_types.Limits.{max_of, use_within}
-use Rattle.k_base.proofs.Resized.{uses_stay, use_moved}
+use Rattle.k_types.specs.declared.names.LimitId.{LimitId}
+use Rattle.k_types.specs.declared.setup.LimitRow.{LimitRow}
+use Rattle.k_types.specs.Trace.{row_of, no_row}
+use Rattle.k_types.specs.Limits.{max_of, use_within}
+use Rattle.k_types.proofs.Resized.{uses_stay, use_moved}
 use Rattle.k_limits.specs.Limits.{ChargedLimits, charged_limits, use_at, is_full_at}
 use Rattle.k_limits.specs.Paths.{AreUses, InRows, is_over, path_from, reserved_from, times_on}
 use Rattle.k_limits.specs.Resizes.{with_max_at, full_for_at}

@@ -1,8 +1,8 @@
 -- The same facts as the code meets them, which reads the rows and the uses through slices.
 use Rattle.std.proofs.Common.{◌≡◌, ℕ, ◌+◌, ◌-◌, ◌*◌, ◌^◌, ◌<◌, ◌≤◌, ap, ◌∙◌, sym, subst, List, length, find, slice_index, slice_index_or, slice_set, Option, None, Fits, w64, arith}
 use Rattle.std.proofs.lemmas.List.{get_or_default}
-use Rattle.k_base.specs.k_types.declared.setup.LimitRow.{LimitRow}
-use Rattle.k_base.specs.k_types.Limits.{max_of, path_of}
+use Rattle.k_types.specs.declared.setup.LimitRow.{LimitRow}
+use Rattle.k_types.specs.Limits.{max_of, path_of}
 use Rattle.k_limits.specs.Limits.{ChargedLimits, charged_limits, full_at}
 use Rattle.k_limits.specs.Paths.{is_over, times_on, AreUses}
 use Rattle.k_limits.proofs.Uses.{found_full, uses_fit, charge_small, lower_enough, direct_small, charged, credited}

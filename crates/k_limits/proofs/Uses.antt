@@ -3,14 +3,14 @@ use Rattle.std.proofs.Common.{◌≡◌, ℕ, zero, suc, ◌+◌, ◌-◌, ◌*�
 use Rattle.std.proofs.lemmas.Bool.{cases_eq, ltb-true, le-ltb}
 use Rattle.std.proofs.lemmas.Bool.Decides.{nat_tests}
 use Rattle.std.proofs.lemmas.List.{get_or-set_same, get_or-set_other, length-set}
-use Rattle.k_base.specs.k_types.TraceRules.{IsTree}
-use Rattle.k_base.specs.k_types.Limits.{path_of, max_of}
+use Rattle.k_types.specs.TraceRules.{IsTree}
+use Rattle.k_types.specs.Limits.{path_of, max_of}
 use Rattle.k_limits.specs.Limits.{ChargedLimits, charged_limits, use_at, is_full_at, full_at}
 use Rattle.k_limits.specs.Paths.{is_over, times_on, AreUses}
-use Rattle.k_base.proofs.Sums.{bit}
+use Rattle.k_types.proofs.Sums.{bit}
 use Rattle.k_limits.proofs.Walks.{path_low, path_once}
 use Rattle.k_limits.proofs.Charges.{use_charged}
-use Rattle.k_base.proofs.Charges.{direct_within}
+use Rattle.k_types.proofs.Charges.{direct_within}
 
 times_first : (x : ℕ) (xs : List ℕ) → 0 < times_on (x ∷ xs) x
 times_first x xs = let here = ap bit (eq-eqb x x refl) in omega (arith, here)

@@ -2,15 +2,14 @@
 use Rattle.std.proofs.Common.{◌≡◌, ℕ, zero, suc, ◌+◌, ◌-◌, ◌*◌, ◌^◌, Fits, w64, ◌<◌, ◌≤◌, ◌==◌, ◌||◌, slice_set, Bool, true, false, cond, refl, ap, ◌∙◌, sym, List, ◌∷◌, length, find, Option, Some, None, subst, slice_index, slice_index_or, arith, eq-eqb, ne_eqb, inl, inr, zero-le}
 use Rattle.std.proofs.lemmas.Bool.{cases_eq, lt-ltb, le-ltb}
 use Rattle.std.proofs.lemmas.List.{get_or_default, get_or-set_same, get_or-set_other}
-use Rattle.k_base.specs.k_types.Names.{among}
-use Rattle.k_base.specs.k_types.declared.names.LimitId.{LimitId}
-use Rattle.k_base.specs.k_types.declared.setup.LimitRow.{LimitRow}
-use Rattle.k_base.specs.k_types.Trace.{row_of, no_row}
-use Rattle.k_base.specs.k_types.TraceRules.{IsTree}
-use Rattle.k_base.specs.k_types.Limits.{max_of, path_within, path_above, path_of}
-use Rattle.k_base.specs.k_types.Limits.{ancestors_within, ancestors_above, ancestors_of}
+use Rattle.k_types.specs.Names.{among}
+use Rattle.k_types.specs.declared.names.LimitId.{LimitId}
+use Rattle.k_types.specs.declared.setup.LimitRow.{LimitRow}
+use Rattle.k_types.specs.Trace.{row_of, no_row}
+use Rattle.k_types.specs.TraceRules.{IsTree}
+use Rattle.k_types.specs.Limits.{max_of, path_within, path_above, path_of, ancestors_within, ancestors_above, ancestors_of}
 use Rattle.k_limits.specs.Paths.{InRows, is_over, passed_to, path_from, ancestry_from, times_on, steps_left}
-use Rattle.k_base.proofs.Sums.{bit}
+use Rattle.k_types.proofs.Sums.{bit}
 
 module _ (rows : List LimitRow) (tree : IsTree rows) where
   -- a path is whole at any depth that is enough

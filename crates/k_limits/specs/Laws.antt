@@ -1,11 +1,11 @@
 -- How the definitions over what is charged directly stand to those of the machine.
 use Rattle.std.specs.Prelude.{◌≡◌, ℕ, ◌<◌, ◌≤◌, List, length, slice_index}
-use Rattle.k_base.specs.k_types.declared.setup.LimitRow.{LimitRow}
-use Rattle.k_base.specs.k_types.Trace.{Trace}
-use Rattle.k_base.specs.k_types.State.{State}
-use Rattle.k_base.specs.k_types.Cells.{BookPart}
-use Rattle.k_base.specs.k_types.Owners.{charge_of}
-use Rattle.k_base.specs.k_types.Limits.{max_of, direct_by, limits_in, use_within, with_maxima}
+use Rattle.k_types.specs.declared.setup.LimitRow.{LimitRow}
+use Rattle.k_types.specs.Trace.{Trace}
+use Rattle.k_types.specs.State.{State}
+use Rattle.k_types.specs.Cells.{BookPart}
+use Rattle.k_types.specs.Owners.{charge_of}
+use Rattle.k_types.specs.Limits.{max_of, direct_by, limits_in, use_within, with_maxima}
 use Rattle.k_limits.specs.Limits.{ChargedLimits, charged_limits}
 
 -- the limits as they are in the state, where so much is charged directly at each

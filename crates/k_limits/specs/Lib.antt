@@ -3,4 +3,4 @@ pub mod Rows
 pub mod Paths
 pub mod Laws
 pub mod Resizes
-pub use Rattle.k_base.specs.k_types
+pub use Rattle.k_types.specs as k_types

@@ -1,7 +1,7 @@
 -- What contracts see of a tree of limits. Uses are no part of it: they are computed from it afresh.
 use Rattle.std.specs.Prelude.{ℕ, ◌+◌, nat_lt, Bool, List, length, find, Option, slice_index}
-use Rattle.k_base.specs.k_types.declared.setup.LimitRow.{LimitRow}
-use Rattle.k_base.specs.k_types.Limits.{max_of, path_of, use_within}
+use Rattle.k_types.specs.declared.setup.LimitRow.{LimitRow}
+use Rattle.k_types.specs.Limits.{max_of, path_of, use_within}
 
 -- the rows of the limits, and how many bytes are charged directly at each
 pub record ChargedLimits : Type 0 where

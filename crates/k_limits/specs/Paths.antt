@@ -1,12 +1,11 @@
 -- The paths that charges go, and when the running uses of a tree are right.
 use Rattle.std.specs.Prelude.{◌≡◌, ℕ, suc, ◌+◌, ◌<◌, ◌≤◌, ◌^◌, ◌==◌, nat_lt, Bool, if◌then◌else◌, List, [], ◌∷◌, length, Option, Some, None, slice_index}
-use Rattle.k_base.specs.k_types.Totals.{total}
-use Rattle.k_base.specs.k_types.declared.names.LimitId.{LimitId}
-use Rattle.k_base.specs.k_types.declared.setup.LimitRow.{LimitRow}
-use Rattle.k_base.specs.k_types.Limits.{max_of, path_of}
+use Rattle.k_types.specs.Totals.{total}
+use Rattle.k_types.specs.declared.names.LimitId.{LimitId}
+use Rattle.k_types.specs.declared.setup.LimitRow.{LimitRow}
+use Rattle.k_types.specs.Limits.{max_of, path_of, ancestors_of}
 use Rattle.k_limits.specs.Limits.{ChargedLimits, use_at}
 use Rattle.k_limits.specs.Rows.{AreRows}
-use Rattle.k_base.specs.k_types.Limits.{ancestors_of}
 
 -- the limit to which the charges at a row are applied too: its parent, where the row is soft
 abbrev pub passed_to : LimitRow → Option LimitId

@@ -1,7 +1,7 @@
 -- Another maximum of a limit.
 use Rattle.std.specs.Prelude.{◌≡◌, ℕ, ◌-◌, ◌<◌, ◌≤◌, nat_lt, find, slice_set, Option, Some, None, if◌then◌else◌}
-use Rattle.k_base.specs.k_types.Trace.{row_of}
-use Rattle.k_base.specs.k_types.Limits.{max_of}
+use Rattle.k_types.specs.Trace.{row_of}
+use Rattle.k_types.specs.Limits.{max_of}
 use Rattle.k_limits.specs.declared.error.ResizeRefusal.{ResizeRefusal}
 use Rattle.k_limits.specs.declared.error.ResizeRefusal.TheVariants.{InUse, Full}
 use Rattle.k_limits.specs.Limits.{ChargedLimits, charged_limits, use_at, is_full_at}

@@ -1,11 +1,11 @@
 -- How the rows of a tree are put into it one by one, where each hard one reserves its maximum.
 use Rattle.std.specs.Prelude.{◌≡◌, IsTrue, ℕ, ◌<◌, ◌^◌, ◌&&◌, Bool, false, List, length, take, find, replicate, Option, Some, None, is_some}
-use Rattle.k_base.specs.k_types.declared.names.LimitId.{LimitId}
-use Rattle.k_base.specs.k_types.declared.setup.LimitRow.{LimitRow}
-use Rattle.k_base.specs.k_types.Numbers.{numbers_below}
-use Rattle.k_base.specs.k_types.Trace.{row_of}
-use Rattle.k_base.specs.k_types.TraceRules.{IsTree}
-use Rattle.k_base.specs.k_types.Limits.{max_of}
+use Rattle.k_types.specs.declared.names.LimitId.{LimitId}
+use Rattle.k_types.specs.declared.setup.LimitRow.{LimitRow}
+use Rattle.k_types.specs.Numbers.{numbers_below}
+use Rattle.k_types.specs.Trace.{row_of}
+use Rattle.k_types.specs.TraceRules.{IsTree}
+use Rattle.k_types.specs.Limits.{max_of}
 use Rattle.k_limits.specs.declared.error.MakeError.{MakeError}
 use Rattle.k_limits.specs.declared.error.MakeError.TheVariants.{ReserveFull, NoMemory}
 use Rattle.k_limits.specs.Limits.{ChargedLimits, charged_limits, full_at}

@@ -1,5 +1,5 @@
 //! Why no tree of limits was made, and why a limit kept its maximum.
-use k_base::{LimitId, NoMemory};
+use k_types::{LimitId, NoMemory};
 
 /// Why no tree of limits was made.
 #[derive(Clone, Copy, Debug, PartialEq, Eq)]

@@ -1,15 +1,15 @@
 //! Laws of the definitions.
 ghost use Rattle.std.specs.Prelude.{List, None, find, length, nat_lt, ◌+◌, ◌<◌, ◌≡◌, ◌↔◌, ℕ};
-ghost use Rattle.k_base.specs.k_types.Limits.{full_limit, max_of, path_of, use_of};
-ghost use Rattle.k_base.specs.k_types.Cells.{BookPart, use_shown};
-ghost use Rattle.k_base.specs.k_types.State.{State};
-ghost use Rattle.k_base.specs.k_types.Trace.{Trace};
-ghost use Rattle.k_base.specs.k_types.TraceRules.{IsTree};
+ghost use Rattle.k_types.specs.Limits.{full_limit, max_of, path_of, use_of};
+ghost use Rattle.k_types.specs.Cells.{BookPart, use_shown};
+ghost use Rattle.k_types.specs.State.{State};
+ghost use Rattle.k_types.specs.Trace.{Trace};
+ghost use Rattle.k_types.specs.TraceRules.{IsTree};
 ghost use Rattle.k_limits.specs.Laws.{AreCharges, ReservesFit, limits_by, limits_of};
 ghost use Rattle.k_limits.specs.Limits.{full_at, use_at};
 ghost use Rattle.k_limits.specs.Rows.{first_refused};
 
-use k_base::LimitRow;
+use k_types::LimitRow;
 
 /// Where each limit is charged directly what the machine charges the processes on it, uses and full limits are those of
 /// the machine.

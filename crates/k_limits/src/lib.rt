@@ -5,7 +5,7 @@
 //! charged directly at each limit, and promises that the use of a limit is the sum over the tree below it, computed afresh,
 //! after any charges, credits and other maxima; and that a charge is refused exactly where the first limit on its path is full.
 //!
-//! The crate stands on `k_types` for numbers of limits, on `k_io` for want of memory, and on the lemmas of `k_base`.
+//! The crate stands on `k_types` for numbers of limits, want of memory, and lemmas.
 #![tactic(auto)]
 
 mod error;
@@ -14,7 +14,7 @@ mod paths;
 mod tree;
 
 pub use error::{MakeError, ResizeRefusal};
-pub use k_base::{
+pub use k_types::{
     Field, LimitId, LimitRow, MAXIMUM_BELOW, MOST_LIMITS, MOST_LINE_BYTES, MOST_OPERATIONS,
     MOST_PROCESSES, MOST_SHARED_HEAPS, MOST_TRACE_BYTES, MOST_TYPES, MOST_WORDS, Op, Pid, Reg,
     Setup, SharedId, TypeId, TypeTable,

@@ -1,12 +1,11 @@
 //! Walks up the path of a limit: the limit, and above each soft one its parent.
 ghost use Rattle.std.specs.Prelude.{◌≡◌, ℕ, ◌+◌, ◌*◌, ◌^◌, ◌<◌, ◌≤◌, length, nat_lt, find, option_map, slice_index, Option, IsTrue};
-ghost use Rattle.k_base.specs.k_types.Names.{among};
-ghost use Rattle.k_base.specs.k_types.TraceRules.{IsTree};
-ghost use Rattle.k_base.specs.k_types.Limits.{max_of};
+ghost use Rattle.k_types.specs.Names.{among};
+ghost use Rattle.k_types.specs.TraceRules.{IsTree};
+ghost use Rattle.k_types.specs.Limits.{max_of, ancestors_of};
 ghost use Rattle.k_limits.specs.Paths.{InRows, is_over, passed_to, path_from, reserved_from, times_on};
-ghost use Rattle.k_base.specs.k_types.Limits.{ancestors_of};
 
-use k_base::{LimitId, LimitRow};
+use k_types::{LimitId, LimitRow};
 
 /// The limit to which the charges at a row are applied too.
 fn passed_to(row: &LimitRow) -> Option<LimitId>

@@ -1,16 +1,15 @@
 //! The tree of limits: what is charged, what is used, and whether there is room for more.
 ghost use Rattle.std.specs.Prelude.{◌≡◌, ℕ, ◌+◌, ◌-◌, ◌^◌, ◌<◌, ◌≤◌, [], ◌∷◌, ◌++◌, length, slice_index, slice_set, Some, None, IsTrue, IsFalse, IfOk, IfErr, is_some};
-ghost use Rattle.k_base.specs.k_types.Names.{among};
-ghost use Rattle.k_base.specs.k_types.Limits.{max_of};
+ghost use Rattle.k_types.specs.Names.{among};
+ghost use Rattle.k_types.specs.Limits.{max_of, ancestors_of};
 ghost use Rattle.k_limits.specs.Limits.{use_at, full_at};
 ghost use Rattle.k_limits.specs.Rows.{AreRows, Explains, ExplainsRow, first_refused, is_refused, uncharged};
-ghost use Rattle.k_base.specs.k_types.Limits.{ancestors_of};
 ghost use Rattle.k_limits.specs.Resizes.{ExplainsResize, full_for_at, with_max_at};
-ghost use Rattle.k_base.specs.k_types.Trace.{row_of};
+ghost use Rattle.k_types.specs.Trace.{row_of};
 
 use crate::error::{MakeError, ResizeRefusal};
 use crate::paths::{first_full, is_below, lower, raise, reserved_from};
-use k_base::{LimitId, LimitRow, push};
+use k_types::{LimitId, LimitRow, push};
 use std::alloc::Global;
 use std::marker::Model;
 

@@ -11,9 +11,9 @@ use Rattle.k_types.specs.declared.op.Op.TheVariants.{Store, Load, Move, Clear, P
 use Rattle.k_types.specs.Agree.{CellValue}
 use Rattle.k_types.specs.Cells.{ProcessPart}
 use Rattle.k_types.specs.State.{Content}
-use Rattle.k_frame.specs.PartUpdates.{done_in, held_in, process_with_register}
+use Rattle.k_laws.specs.PartUpdates.{done_in, held_in, process_with_register}
 use Rattle.k_heap.specs.k_agree.GivingAway.{with_one_done}
-use Rattle.k_squares.specs.CellAfter.{unless_refused}
+use Rattle.k_laws.specs.CellAfter.{unless_refused}
 use Rattle.k_heap.specs.Heaps.{HeapRecord}
 use Rattle.k_local.specs.Locals.{after_local, local_change, written_through}
 

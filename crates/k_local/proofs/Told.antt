@@ -19,16 +19,16 @@ use Rattle.k_types.specs.Owners.{user}
 use Rattle.k_types.specs.Replies.{at_base, fault_where, first_fault, is_foreign, is_ref, number_in, reference, refused_or}
 use Rattle.k_types.specs.State.{Holds, Refers}
 use Rattle.k_types.specs.Trace.{Trace}
-use Rattle.k_base.proofs.NameTests.{heap_eq_refl}
-use Rattle.k_frame.proofs.Laws.{local_operations_go_by_their_cell-book}
-use Rattle.k_frame.specs.PartUpdates.{held_in, with_done, with_register, with_written}
-use Rattle.k_changes.specs.BookChanges.{owner_in}
-use Rattle.k_changes.specs.CellChanges.{with_exit_to}
+use Rattle.k_types.proofs.NameTests.{heap_eq_refl}
+use Rattle.k_laws.proofs.FrameLaws.{local_operations_go_by_their_cell-book}
+use Rattle.k_laws.specs.PartUpdates.{held_in, with_done, with_register, with_written}
+use Rattle.k_laws.specs.BookChanges.{owner_in}
+use Rattle.k_laws.specs.CellChanges.{with_exit_to}
 use Rattle.k_heap.specs.k_agree.Marking.{idle_part}
-use Rattle.k_squares.specs.Answers.{access_faults_in, answer_in, faults_in, field_in, load_faults_in, number_faults_in, number_from_in, passes_barrier_in, reference_from_in, reply_in, store_faults_in}
-use Rattle.k_squares.specs.CellAfter.{at_cell, cell_after, cells_operated, cells_put, cells_stored, cells_with_register, reference_given, register_in, unless_refused, with_exit_for}
-use Rattle.k_squares.proofs.Laws.{local_operations_are_told}
-use Rattle.k_squares.specs.Locals.{is_local_in, is_local_load_in, is_local_store_in}
+use Rattle.k_laws.specs.Answers.{access_faults_in, answer_in, faults_in, field_in, load_faults_in, number_faults_in, number_from_in, passes_barrier_in, reference_from_in, reply_in, store_faults_in}
+use Rattle.k_laws.specs.CellAfter.{at_cell, cell_after, cells_operated, cells_put, cells_stored, cells_with_register, reference_given, register_in, unless_refused, with_exit_for}
+use Rattle.k_laws.proofs.SquaresLaws.{local_operations_are_told}
+use Rattle.k_laws.specs.Locals.{is_local_in, is_local_load_in, is_local_store_in}
 use Rattle.k_heap.specs.Looks.{field_among, field_count_among}
 use Rattle.k_heap.specs.Heaps.{with_register_in}
 use Rattle.k_local.specs.Locals.{IsMachines, LeavesTheBook, ShowOwn, after_local, field_answer, get_answer, load_answer, local_answer, local_change, loaded_through, put_answer, store_answer, written_through}

@@ -17,12 +17,12 @@ use Rattle.k_types.specs.Owners.{user}
 use Rattle.k_types.specs.Replies.{is_ref, number_in, reference}
 use Rattle.k_types.specs.State.{Content, Holds, Refers, State}
 use Rattle.k_types.specs.Trace.{Trace, process_count}
-use Rattle.k_frame.specs.PartUpdates.{held_in}
-use Rattle.k_changes.specs.BookChanges.{owner_in}
+use Rattle.k_laws.specs.PartUpdates.{held_in}
+use Rattle.k_laws.specs.BookChanges.{owner_in}
 use Rattle.k_heap.specs.k_agree.GivingAway.{with_one_done}
 use Rattle.k_heap.specs.k_agree.Marking.{idle_part}
-use Rattle.k_squares.specs.Answers.{reply_in}
-use Rattle.k_squares.specs.CellAfter.{cell_after, unless_refused}
+use Rattle.k_laws.specs.Answers.{reply_in}
+use Rattle.k_laws.specs.CellAfter.{cell_after, unless_refused}
 use Rattle.k_heap.specs.Changes.{with_field}
 use Rattle.k_heap.specs.Looks.{field_among, field_count_among}
 use Rattle.k_heap.specs.Heaps.{HeapRecord, with_register_in}

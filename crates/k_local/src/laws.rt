@@ -7,7 +7,7 @@ ghost use Rattle.k_types.specs.Agree.{CellValue};
 ghost use Rattle.k_types.specs.Cells.{BookPart, Cell, CellPart};
 ghost use Rattle.k_types.specs.Trace.{Trace};
 ghost use Rattle.k_heap.specs.k_agree.Marking.{idle_part};
-ghost use Rattle.k_squares.specs.Locals.{is_local_in};
+ghost use Rattle.k_laws.specs.Locals.{is_local_in};
 ghost use Rattle.k_local.specs.Locals.{IsMachines, ShowOwn, after_local, local_answer};
 
 /// The cell of a process answers just the operations that are local, by its part alone. The reply is what the parts of all cells

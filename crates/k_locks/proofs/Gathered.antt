@@ -2,12 +2,12 @@
 use Rattle.std.proofs.Common.{◌≡◌, ◌⊎◌, ◌+◌, ℕ, refl, sym, ap, ◌∙◌, subst, inl, inr, List, length, set, map, Option, Some, None, replicate, slice_get, length-set, arith}
 use Rattle.std.proofs.lemmas.List.{length-map, length-replicate}
 use Rattle.k_types.specs.Trace.{process_count}
-use Rattle.k_process.specs.SharedHeaps.{SharedRecord}
+use Rattle.k_process.specs.k_shared.SharedHeaps.{SharedRecord}
 use Rattle.k_process.specs.declared.process.Process.{Process}
 use Rattle.k_process.specs.k_book.Books.{BookRecord}
 use Rattle.k_process.specs.Keeping.{SharedKeeps}
 use Rattle.k_locks.specs.Places.{ArePlaces, ArePlacesShared, HasPlaced, HasPlacedShared, filled}
-use Rattle.k_process.specs.Standing.{HeapsStand, ProcessStands, ProcessesStand}
+use Rattle.k_process.specs.BetweenSteps.{HeapsStand, ProcessStands, ProcessesStand}
 use Rattle.k_process.specs.Worlds.{WorldValue}
 use Rattle.k_process.proofs.Written.{get_set_cases}
 use Rattle.k_locks.proofs.Places.{filled_none, filled_set, get_mapped_some, none_there}

@@ -2,7 +2,7 @@
 use Rattle.std.specs.Prelude.{◌≡◌, ℕ, ◌≤◌, List, Option, None, [], replicate}
 use Rattle.k_types.specs.Trace.{process_count}
 use Rattle.k_process.specs.k_book.Books.{BookRecord}
-use Rattle.k_process.specs.SharedHeaps.{SharedRecord}
+use Rattle.k_process.specs.k_shared.SharedHeaps.{SharedRecord}
 use Rattle.k_process.specs.declared.process.Process.{Process}
 use Rattle.k_process.specs.Worlds.{WorldValue}
 

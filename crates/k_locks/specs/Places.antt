@@ -2,10 +2,10 @@
 use Rattle.std.specs.Prelude.{◌≡◌, ℕ, ◌+◌, List, [], ◌∷◌, Option, Some, None, length, slice_get}
 use Rattle.k_types.specs.Trace.{process_count}
 use Rattle.k_process.specs.k_book.Books.{BookRecord}
-use Rattle.k_process.specs.SharedHeaps.{SharedRecord}
+use Rattle.k_process.specs.k_shared.SharedHeaps.{SharedRecord}
 use Rattle.k_process.specs.Keeping.{SharedKeeps}
 use Rattle.k_process.specs.declared.process.Process.{Process}
-use Rattle.k_process.specs.Standing.{ProcessStands}
+use Rattle.k_process.specs.BetweenSteps.{ProcessStands}
 use Rattle.k_process.specs.Worlds.{WorldValue}
 
 -- 1 where something is there

@@ -1,8 +1,8 @@
 //! The values behind the locks.
 ghost use Rattle.std.specs.Prelude.{IfNone, IfSome, None, ◌<◌, ◌≡◌};
-ghost use Rattle.k_frame.specs.PartUpdates.{done_in};
+ghost use Rattle.k_laws.specs.PartUpdates.{done_in};
 ghost use Rattle.k_process.specs.Keeping.{BookKeeps, KernelKeeps, SharedKeeps};
-ghost use Rattle.k_process.specs.Standing.{IsNextOf, ProcessStands};
+ghost use Rattle.k_process.specs.BetweenSteps.{IsNextOf, ProcessStands};
 ghost use Rattle.k_types.specs.Trace.{process_count};
 ghost use Rattle.k_watch.specs.Shown.{IsShown};
 
@@ -27,7 +27,7 @@ impl<W: WorldName> Model for LockedProcess<W> {
 
     ghost Value = { HeapRecord };
 
-    ghost use Rattle.k_process.specs.Standing.{ProcessStands};
+    ghost use Rattle.k_process.specs.BetweenSteps.{ProcessStands};
 
     ghost view = { λ l. l.process.cell };
 
@@ -142,7 +142,7 @@ pub struct LockedShared<W: WorldName> {
 }
 
 impl<W: WorldName> Model for LockedShared<W> {
-    ghost use Rattle.k_process.specs.SharedHeaps.{SharedRecord};
+    ghost use Rattle.k_process.specs.k_shared.SharedHeaps.{SharedRecord};
 
     ghost Value = { SharedRecord };
 

@@ -1,7 +1,7 @@
 //! All heaps of a run put behind their locks, and taken from behind them again.
 ghost use Rattle.std.specs.Prelude.{◌≡◌, IfOk, length, vec_capacity};
 ghost use Rattle.k_process.specs.Heaps.{value_of};
-ghost use Rattle.k_process.specs.Standing.{AllStand, HeapsStand, ProcessesStand};
+ghost use Rattle.k_process.specs.BetweenSteps.{AllStand, HeapsStand, ProcessesStand};
 ghost use Rattle.k_locks.specs.Gathering.{CanGather, CanGatherShared};
 ghost use Rattle.k_locks.specs.Rooms.{AreEndRooms, HasRoom};
 ghost use Rattle.k_types.specs.Trace.{process_count};

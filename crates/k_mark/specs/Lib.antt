@@ -4,8 +4,10 @@ pub mod Kept
 pub mod Sweeping
 pub mod Listening
 pub mod Example
-pub use Rattle.k_exit.specs.k_base
-pub use Rattle.k_exit.specs as k_exit
-pub use Rattle.k_laws.specs.k_frame
-pub use Rattle.k_space.specs as k_space
+pub mod Shown
+pub mod Parts
+pub mod Lists
 pub use Rattle.k_laws.specs.k_types
+pub use Rattle.k_space.specs as k_space
+pub use Rattle.k_exit.specs as k_exit
+pub use Rattle.k_laws.specs as k_laws

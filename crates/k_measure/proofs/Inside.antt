@@ -19,8 +19,8 @@ use Rattle.k_mark.specs.Marking.{fields_lead_to, refers_at}
 use Rattle.k_mark.specs.Sweeping.{survivor, swept, swept_segment}
 use Rattle.k_space.proofs.AreaRows.{found, same_unmarked}
 use Rattle.k_space.proofs.Numbers.{distinct_from, found_at}
-use Rattle.k_base.proofs.Lists.{some_one}
-use Rattle.k_base.proofs.NameTests.{name_eq-true, name_eq_refl}
+use Rattle.k_types.proofs.Lists.{some_one}
+use Rattle.k_types.proofs.NameTests.{name_eq-true, name_eq_refl}
 use Rattle.k_mark.proofs.Looks.{test_after, black_gray}
 use Rattle.k_mark.proofs.Marked.{refers_fields}
 use Rattle.k_measure.specs.Inside.{LeadNowhere, LeadTo, AllLeadTo, IsInside, IsInsideOrExit, AreNew, KeepsInside, KeepsExits, IsOne, IsOneWith, HasNoBlack}

@@ -5,7 +5,7 @@ use Rattle.k_types.specs.declared.setup.Setup.{Setup}
 use Rattle.k_turns.specs.Values.{AreFree, IsFree, PassValue, TurnsValue, fresh_pass}
 use Rattle.k_locks.specs.k_process.SharedHeaps.{SharedRecord}
 use Rattle.k_outcome.specs.k_process.declared.process.Process.{Process}
-use Rattle.k_outcome.specs.k_process.Standing.{HeapsStand, ProcessesStand}
+use Rattle.k_outcome.specs.k_process.BetweenSteps.{HeapsStand, ProcessesStand}
 use Rattle.k_outcome.specs.k_process.Worlds.{WorldValue}
 use Rattle.k_still.specs.Opening.{IsSetupOf}
 use Rattle.k_outcome.specs.Listed.{AreRoomsFor}

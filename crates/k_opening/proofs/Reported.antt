@@ -8,7 +8,7 @@ use Rattle.k_types.specs.declared.names.Heap.TheVariants.{Kernel, Shared, User}
 use Rattle.k_types.specs.declared.op.Op.{Op}
 use Rattle.k_types.specs.Trace.{IsHeap, Trace, operations_of, process_count, segment_of}
 use Rattle.k_types.specs.TraceRules.{KeepsRules}
-use Rattle.k_bounds.specs.Counts.{stores_in}
+use Rattle.k_laws.specs.Counts.{stores_in}
 use Rattle.k_locks.specs.k_process.k_commit.k_agree.Rooms.{exit_room}
 use Rattle.k_trace.specs.declared.trace.Trace.{Trace as TraceRead}
 use Rattle.k_trace.specs.Meaning.{meaning_of}

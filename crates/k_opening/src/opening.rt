@@ -1,7 +1,7 @@
 //! A run that is put behind its locks.
 ghost use Rattle.std.specs.Prelude.{◌≡◌, ◌<◌, ◌^◌, [], ◌∷◌, IfOk, None, Some, length, vec_capacity};
 ghost use Rattle.k_outcome.specs.k_process.Heaps.{value_of};
-ghost use Rattle.k_outcome.specs.k_process.Standing.{AllStand};
+ghost use Rattle.k_outcome.specs.k_process.BetweenSteps.{AllStand};
 ghost use Rattle.k_still.specs.Opening.{IsSetupOf};
 ghost use Rattle.k_outcome.specs.Listed.{AreRoomsFor};
 ghost use Rattle.k_locks.specs.Rooms.{AreEndRooms, HasRoom};

@@ -1,6 +1,6 @@
 //! Room for what a report lists of the end of a run.
 ghost use Rattle.std.specs.Prelude.{◌≡◌, ◌++◌, IfOk, map};
-ghost use Rattle.k_bounds.specs.Counts.{stores_in};
+ghost use Rattle.k_laws.specs.Counts.{stores_in};
 ghost use Rattle.k_outcome.specs.Listed.{AreRoomsFor};
 ghost use Rattle.k_trace.specs.Meaning.{meaning_of};
 ghost use Rattle.k_trace.specs.Rules.{IsTrace};

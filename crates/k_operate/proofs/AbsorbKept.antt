@@ -12,26 +12,26 @@ use Rattle.k_types.specs.Sound.{IsSound}
 use Rattle.k_types.specs.State.{State}
 use Rattle.k_types.specs.Steps.{IsPossible, is_orphan, state_after}
 use Rattle.k_types.specs.Trace.{Trace, segment_count, segment_of}
-use Rattle.k_frame.proofs.Histories.{state_next}
+use Rattle.k_laws.proofs.Histories.{state_next}
 use Rattle.k_agree.specs.Meeting.{Fits}
 use Rattle.k_agree.specs.Rooms.{event_room, exit_room}
 use Rattle.k_agree.proofs.AtTheEnd.{book_sound}
 use Rattle.k_agree.proofs.Meetings.{meeting}
 use Rattle.k_agree.proofs.WithinRooms.{fits_rooms}
-use Rattle.k_moves.proofs.Idle.{not_open}
+use Rattle.k_agree.proofs.Idle.{not_open}
 use Rattle.k_process.specs.k_book.Books.{BookRecord}
 use Rattle.k_process.proofs.Telling.{tells}
 use Rattle.k_process.specs.k_cell.Holdings.{HoldingsValue}
-use Rattle.k_process.specs.SharedHeaps.{SharedRecord}
+use Rattle.k_process.specs.k_shared.SharedHeaps.{SharedRecord}
 use Rattle.k_shares.specs.Sharers.{is_orphan_by, lowest_orphan}
 use Rattle.k_collect.specs.Begun.{HasAppended}
 use Rattle.k_depart.specs.Absorbing.{CanAbsorb, HasAbsorbedHeap}
-use Rattle.k_process.specs.CommitStanding.{BookStands}
+use Rattle.k_process.specs.Standing.{BookStands}
 use Rattle.k_process.specs.Keeping.{BookKeeps, CanGive, KernelKeeps, SharedKeeps, is_absorbed_in}
 use Rattle.k_process.specs.Rooms.{shared_exit_room}
-use Rattle.k_process.specs.Standing.{RestStands}
+use Rattle.k_process.specs.BetweenSteps.{RestStands}
 use Rattle.k_process.specs.Worlds.{WorldValue}
-use Rattle.k_process.proofs.Kept.{shared_set}
+use Rattle.k_process.proofs.MeetingKeeps.{shared_set}
 use Rattle.k_operate.specs.Absorbing.{CanAbsorbOrphan, HasAbsorbedOrphan}
 use Rattle.k_process.proofs.Lists.{found_passes}
 use Rattle.k_operate.proofs.AbsorbOrphans.{absorptions_next, found_below, none_to_absorb}

@@ -18,11 +18,11 @@ use Rattle.k_types.specs.Following.{FollowsOwn, FollowsTrace, is_closing}
 use Rattle.k_types.specs.State.{is_scanned, scan_of}
 use Rattle.k_types.specs.Steps.{IsPossible, done_by, state_after}
 use Rattle.k_types.specs.Trace.{Trace, operations_of, process_count}
-use Rattle.k_bounds.proofs.ByProcess.{follows_own}
-use Rattle.k_bounds.proofs.Dones.{done_count}
-use Rattle.k_known.proofs.Counted.{all_ordered}
-use Rattle.k_frame.specs.PartUpdates.{done_in}
-use Rattle.k_frame.proofs.Histories.{done_append}
+use Rattle.k_laws.proofs.ByProcess.{follows_own}
+use Rattle.k_laws.proofs.Dones.{done_count}
+use Rattle.k_laws.proofs.KnownCounted.{all_ordered}
+use Rattle.k_laws.specs.PartUpdates.{done_in}
+use Rattle.k_laws.proofs.Histories.{done_append}
 use Rattle.k_tie.specs.Values.{NoteValue}
 use Rattle.k_agree.specs.Agreement.{Agrees}
 use Rattle.k_agree.specs.Meeting.{Fits}
@@ -33,11 +33,11 @@ use Rattle.k_agree.proofs.WithinRooms.{fits_rooms, follows_after, room_after}
 use Rattle.k_bodies.specs.Bodies.{bodies_of}
 use Rattle.k_process.specs.k_book.Books.{BookRecord, pin_room_of}
 use Rattle.k_process.specs.k_heap.Heaps.{HeapRecord}
-use Rattle.k_process.specs.CommitStanding.{BookStands}
+use Rattle.k_process.specs.Standing.{BookStands}
 use Rattle.k_collect.specs.Begun.{HasAppended}
 use Rattle.k_process.specs.Keeping.{BookKeeps, CanGive, HasHeapRooms, HeapKeeps, operations_left}
 use Rattle.k_process.proofs.CanDo.{done_of}
-use Rattle.k_process.proofs.LockedKept.{drop_more}
+use Rattle.k_process.proofs.Kept.{drop_more}
 
 module _ (trace : Trace) (b l : BookRecord) (event : Event) (k : BookStands trace b) (s : HasAppended trace b l event) where
   -- the book stands after any event

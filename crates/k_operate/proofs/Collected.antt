@@ -11,10 +11,10 @@ use Rattle.k_types.specs.declared.op.Op.TheVariants.{Collect}
 use Rattle.k_types.specs.Agree.{CellValue}
 use Rattle.k_types.specs.Steps.{done_by}
 use Rattle.k_types.specs.Trace.{operations_of}
-use Rattle.k_bounds.specs.Counts.{stores_in}
-use Rattle.k_bounds.proofs.Dones.{done_count}
-use Rattle.k_frame.specs.PartUpdates.{done_in}
-use Rattle.k_frame.proofs.Histories.{done_append}
+use Rattle.k_laws.specs.Counts.{stores_in}
+use Rattle.k_laws.proofs.Dones.{done_count}
+use Rattle.k_laws.specs.PartUpdates.{done_in}
+use Rattle.k_laws.proofs.Histories.{done_append}
 use Rattle.k_mark.specs.declared.sweeping.Swept.{Swept}
 use Rattle.k_agree.specs.Agreement.{Agrees}
 use Rattle.k_agree.specs.Marking.{marked}

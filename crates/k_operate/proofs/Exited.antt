@@ -9,8 +9,8 @@ use Rattle.k_types.specs.declared.op.Op.{Op}
 use Rattle.k_types.specs.declared.op.Op.TheVariants.{Exit}
 use Rattle.k_types.specs.Steps.{state_after}
 use Rattle.k_types.specs.Trace.{operations_of, segment_count}
-use Rattle.k_base.specs.Distinct.{AreDistinctNames}
-use Rattle.k_bounds.specs.Counts.{stores_in}
+use Rattle.k_types.specs.Distinct.{AreDistinctNames}
+use Rattle.k_laws.specs.Counts.{stores_in}
 use Rattle.k_agree.specs.Meeting.{Fits}
 use Rattle.k_agree.specs.Rooms.{exit_room}
 use Rattle.k_agree.proofs.AtTheEnd.{book_sound}
@@ -32,7 +32,7 @@ use Rattle.k_operate.specs.Adding.{AddsOperation, known_to}
 use Rattle.k_operate.proofs.Added.{adds_exit, adds_known}
 use Rattle.k_operate.proofs.Appended.{book_keeps_on, gives_else, heap_keeps_by, in_turn, left_by_done}
 use Rattle.k_operate.proofs.Collected.{room_for_next}
-use Rattle.k_bounds.proofs.AllExits.{exits_together}
+use Rattle.k_laws.proofs.AllExits.{exits_together}
 
 -- the exit items of a process's heap fit beside the kernel's
 pub exits_fit : (world : WorldValue) (c : HeapRecord) (k : HoldingsValue) (b : BookRecord) → HeapKeeps world.trace world.table c → c.value.tail ≡ [] → KernelKeeps world.trace world.table k → BookKeeps world.trace world.table b →

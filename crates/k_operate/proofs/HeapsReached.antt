@@ -13,13 +13,13 @@ use Rattle.k_types.specs.Cells.{BookPart, CellPart, book_part}
 use Rattle.k_types.specs.State.{has_share}
 use Rattle.k_types.specs.Steps.{in_range}
 use Rattle.k_types.specs.Trace.{Trace}
-use Rattle.k_squares.specs.Touches.{access_cell_in, base_cell_in, ends_other_in, other_cells_in}
+use Rattle.k_laws.specs.Touches.{access_cell_in, base_cell_in, ends_other_in, other_cells_in}
 use Rattle.k_agree.proofs.AtTheEnd.{book_sound}
-use Rattle.k_frame.specs.PartUpdates.{held_in}
-use Rattle.k_changes.specs.BookChanges.{owner_in}
+use Rattle.k_laws.specs.PartUpdates.{held_in}
+use Rattle.k_laws.specs.BookChanges.{owner_in}
 use Rattle.k_process.specs.k_book.Books.{BookRecord}
-use Rattle.k_process.specs.CommitStanding.{BookStands}
-use Rattle.k_moves.proofs.Killing.{never_one}
+use Rattle.k_process.specs.Standing.{BookStands}
+use Rattle.k_agree.proofs.Killing.{never_one}
 
 below : (a b : ℕ) → nat_lt a b ≡ true → a < b
 below a b t = grind (arith, nat_tests)

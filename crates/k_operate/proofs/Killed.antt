@@ -10,9 +10,9 @@ use Rattle.k_types.specs.Agree.{book_shown_by}
 use Rattle.k_types.specs.Cells.{Cell}
 use Rattle.k_types.specs.Limits.{is_above}
 use Rattle.k_types.specs.Trace.{operations_of, process_count, segment_count}
-use Rattle.k_base.specs.Distinct.{AreDistinctNames}
-use Rattle.k_base.proofs.Ancestors.{above_another}
-use Rattle.k_bounds.specs.Counts.{stores_in}
+use Rattle.k_types.specs.Distinct.{AreDistinctNames}
+use Rattle.k_types.proofs.Ancestors.{above_another}
+use Rattle.k_laws.specs.Counts.{stores_in}
 use Rattle.k_agree.specs.Rooms.{exit_room}
 use Rattle.k_bodies.specs.Bodies.{bodies_of}
 use Rattle.k_process.specs.k_book.Books.{BookRecord}
@@ -21,13 +21,13 @@ use Rattle.k_process.specs.k_heap.Heaps.{HeapRecord, has_ended_in, own_segment}
 use Rattle.k_depart.specs.Killing.{CanKill, HasKilled}
 use Rattle.k_process.specs.Keeping.{BookKeeps, CanGive, HeapKeeps, operations_left}
 use Rattle.k_process.proofs.CanDo.{event_left, heap_stands}
-use Rattle.k_moves.specs.Shown.{idle_part}
-use Rattle.k_moves.proofs.Killing.{ends_by, never_one}
+use Rattle.k_agree.specs.Shown.{idle_part}
+use Rattle.k_agree.proofs.Killing.{ends_by, never_one}
 use Rattle.k_process.specs.declared.process.Process.{Process}
-use Rattle.k_process.specs.Standing.{ComesNext}
+use Rattle.k_process.specs.BetweenSteps.{ComesNext}
 use Rattle.k_process.specs.Worlds.{WorldValue}
-use Rattle.k_squares.specs.Locals.{is_local_in}
-use Rattle.k_squares.specs.Touches.{ends_other_in, other_cells_in}
+use Rattle.k_laws.specs.Locals.{is_local_in}
+use Rattle.k_laws.specs.Touches.{ends_other_in, other_cells_in}
 use Rattle.k_own.specs.Reaching.{CanReach}
 use Rattle.k_operate.specs.Adding.{AddsOperation, known_to}
 use Rattle.k_operate.specs.Collecting.{HasSameLeft}

@@ -16,4 +16,4 @@ pub use Rattle.k_process.proofs.Written
 pub use Rattle.k_process.proofs.Looped
 pub use Rattle.k_collect.proofs.KernelBegins
 pub use Rattle.k_process.proofs.CanDo
-pub use Rattle.k_process.proofs.Kept
+pub use Rattle.k_process.proofs.MeetingKeeps as Kept

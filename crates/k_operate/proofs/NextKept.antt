@@ -7,18 +7,18 @@ use Rattle.k_types.specs.declared.names.SharedId.{SharedId}
 use Rattle.k_types.specs.declared.op.Op.{Op}
 use Rattle.k_types.specs.Agree.{book_shown_by}
 use Rattle.k_types.specs.Cells.{Cell}
-use Rattle.k_squares.specs.Locals.{is_local_in}
-use Rattle.k_squares.specs.Touches.{other_cells_in}
-use Rattle.k_moves.specs.Shown.{idle_part}
+use Rattle.k_laws.specs.Locals.{is_local_in}
+use Rattle.k_laws.specs.Touches.{other_cells_in}
+use Rattle.k_agree.specs.Shown.{idle_part}
 use Rattle.k_process.specs.k_book.Books.{BookRecord}
 use Rattle.k_process.specs.k_cell.Holdings.{HoldingsValue}
 use Rattle.k_process.specs.k_heap.Heaps.{HeapRecord}
-use Rattle.k_process.specs.SharedHeaps.{SharedRecord}
+use Rattle.k_process.specs.k_shared.SharedHeaps.{SharedRecord}
 use Rattle.k_process.specs.Keeping.{operations_left}
 use Rattle.k_process.specs.declared.process.Process.{Process}
-use Rattle.k_process.specs.Standing.{ComesNext, RestStands}
+use Rattle.k_process.specs.BetweenSteps.{ComesNext, RestStands}
 use Rattle.k_process.specs.Worlds.{WorldValue}
-use Rattle.k_process.proofs.Kept.{shared_set}
+use Rattle.k_process.proofs.MeetingKeeps.{shared_set}
 use Rattle.k_own.specs.Reaching.{CanReach}
 use Rattle.k_operate.specs.Collecting.{IsNextAndSettled}
 use Rattle.k_operate.specs.Readiness.{IsReady, begins_or_ends}

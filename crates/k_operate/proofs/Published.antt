@@ -5,7 +5,7 @@ use Rattle.k_types.specs.declared.names.Pid.{Pid}
 use Rattle.k_types.specs.Agree.{CellValue}
 use Rattle.k_types.specs.Following.{FollowsOwn, FollowsTrace}
 use Rattle.k_types.specs.Trace.{Trace, operations_of, process_count}
-use Rattle.k_frame.specs.PartUpdates.{done_in}
+use Rattle.k_laws.specs.PartUpdates.{done_in}
 use Rattle.k_agree.specs.Rooms.{event_room, exit_room}
 use Rattle.k_process.specs.k_book.Books.{BookRecord, pin_room_of}
 use Rattle.k_process.specs.k_book.Machine.{IsBookOf}

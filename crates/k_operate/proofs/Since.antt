@@ -4,9 +4,9 @@ use Rattle.k_types.specs.declared.op.Op.{Op}
 use Rattle.k_types.specs.declared.op.Op.TheVariants.{Collect, Exit, KCollect}
 use Rattle.k_types.specs.Agree.{book_shown_by}
 use Rattle.k_types.specs.Cells.{Cell}
-use Rattle.k_squares.specs.Locals.{is_local_in}
-use Rattle.k_squares.specs.Touches.{other_cells_in}
-use Rattle.k_moves.specs.Shown.{idle_part}
+use Rattle.k_laws.specs.Locals.{is_local_in}
+use Rattle.k_laws.specs.Touches.{other_cells_in}
+use Rattle.k_agree.specs.Shown.{idle_part}
 use Rattle.k_process.specs.k_book.Books.{BookRecord}
 use Rattle.k_process.specs.k_heap.Heaps.{HeapRecord, has_ended_in}
 use Rattle.k_process.specs.Keeping.{operations_left}
@@ -14,7 +14,7 @@ use Rattle.k_process.proofs.CanDo.{next_in_range}
 use Rattle.k_process.specs.declared.process.Process.{Process}
 use Rattle.k_own.specs.Reaching.{CanReach}
 use Rattle.k_operate.specs.Readiness.{IsReady, begins_or_ends}
-use Rattle.k_process.specs.Standing.{ComesNext}
+use Rattle.k_process.specs.BetweenSteps.{ComesNext}
 use Rattle.k_operate.specs.Collecting.{IsNextAndSettled}
 use Rattle.k_operate.specs.Steps.{HasPublishedAll, IsDueWith, PairStands}
 use Rattle.k_process.specs.Worlds.{WorldValue}

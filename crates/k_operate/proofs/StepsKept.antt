@@ -6,27 +6,27 @@ use Rattle.k_types.specs.declared.event.Reply.{Reply}
 use Rattle.k_types.specs.declared.op.Op.{Op}
 use Rattle.k_types.specs.declared.op.Op.TheVariants.{Collect, KCollect, Exit}
 use Rattle.k_types.specs.declared.names.Heap.TheVariants.{Kernel, Shared}
-use Rattle.k_base.specs.Distinct.{AreDistinctNames}
-use Rattle.k_squares.specs.Locals.{is_local_in}
+use Rattle.k_types.specs.Distinct.{AreDistinctNames}
+use Rattle.k_laws.specs.Locals.{is_local_in}
 use Rattle.k_types.specs.Trace.{operations_of}
-use Rattle.k_moves.specs.Shown.{idle_part}
+use Rattle.k_agree.specs.Shown.{idle_part}
 use Rattle.k_process.specs.k_book.Books.{BookRecord, book_entries}
 use Rattle.k_entry.specs.Entries.{AreEntries}
 use Rattle.k_process.specs.k_cell.Holdings.{HoldingsValue}
 use Rattle.k_process.specs.k_heap.Heaps.{HeapRecord}
-use Rattle.k_process.specs.SharedHeaps.{SharedRecord}
+use Rattle.k_process.specs.k_shared.SharedHeaps.{SharedRecord}
 use Rattle.k_process.specs.k_local.Locals.{after_local, local_answer}
 use Rattle.k_process.specs.Beside.{HasSteppedWithKernel, HasSteppedWithShared}
 use Rattle.k_process.specs.Others.{shared_by}
 use Rattle.k_process.specs.Stepped.{HasStepped}
 use Rattle.k_own.specs.Own.{CanStepOwn, is_collect}
 use Rattle.k_pair.specs.Operating.{CanStepWithKernel, CanStepWithShared, collects_or_exits}
-use Rattle.k_bounds.specs.Counts.{allocates_in}
+use Rattle.k_laws.specs.Counts.{allocates_in}
 use Rattle.k_process.proofs.CanDo.{can_operate, can_operate_with_kernel, can_operate_with_shared}
-use Rattle.k_process.proofs.LockedKept.{book_keeps, heap_keeps, kernel_keeps, left_now, shared_keeps}
+use Rattle.k_process.proofs.Kept.{book_keeps, heap_keeps, kernel_keeps, left_now, shared_keeps}
 use Rattle.k_process.proofs.Steps.{alone_allocates, beside_allocates, local_keeps, local_left}
 use Rattle.k_process.specs.declared.process.Process.{Process}
-use Rattle.k_process.specs.Standing.{ComesNext, HasDone, ProcessStands}
+use Rattle.k_process.specs.BetweenSteps.{ComesNext, HasDone, ProcessStands}
 use Rattle.k_operate.specs.Steps.{CanDoAlone, CanDoInside, CanDoWithKernel, CanDoWithShared, HasDoneAlone, HasDoneInside, HasDoneWithKernel, HasDoneWithShared, PairStands}
 use Rattle.k_operate.specs.Readiness.{begins_or_ends}
 use Rattle.k_process.specs.Worlds.{WorldValue}

@@ -6,11 +6,11 @@ use Rattle.k_types.specs.FileOrder.{absorptions}
 use Rattle.k_types.specs.Steps.{state_after}
 use Rattle.k_process.specs.k_book.Books.{BookRecord}
 use Rattle.k_process.specs.k_cell.Holdings.{HoldingsValue}
-use Rattle.k_process.specs.SharedHeaps.{SharedRecord}
+use Rattle.k_process.specs.k_shared.SharedHeaps.{SharedRecord}
 use Rattle.k_shares.specs.Sharers.{lowest_orphan}
 use Rattle.k_process.specs.Keeping.{BookKeeps, KernelKeeps, SharedKeeps}
 use Rattle.k_process.specs.declared.process.Process.{Process}
-use Rattle.k_process.specs.Standing.{RestStands}
+use Rattle.k_process.specs.BetweenSteps.{RestStands}
 use Rattle.k_process.specs.Worlds.{WorldValue}
 use Rattle.k_operate.specs.Collecting.{IsNextAndSettled}
 

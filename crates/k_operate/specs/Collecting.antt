@@ -7,7 +7,7 @@ use Rattle.k_types.specs.declared.op.Op.{Op}
 use Rattle.k_types.specs.declared.op.Op.TheVariants.{Collect, Exit, KCollect}
 use Rattle.k_types.specs.Trace.{Trace, operations_of, segment_count}
 use Rattle.k_types.specs.TraceRules.{KeepsRules}
-use Rattle.k_bounds.specs.Counts.{stores_in}
+use Rattle.k_laws.specs.Counts.{stores_in}
 use Rattle.k_mark.specs.declared.sweeping.Swept.{Swept}
 use Rattle.k_agree.specs.Agreement.{Agrees}
 use Rattle.k_agree.specs.Rooms.{exit_room}
@@ -19,7 +19,7 @@ use Rattle.k_shares.specs.Sharers.{lowest_orphan}
 use Rattle.k_collect.specs.SweptAlone.{HasSweptAlone, KernelHasSweptAlone}
 use Rattle.k_process.specs.Keeping.{BookKeeps, CanGive, KernelKeeps, operations_left}
 use Rattle.k_process.specs.declared.process.Process.{Process}
-use Rattle.k_process.specs.Standing.{ComesNext, HasDone}
+use Rattle.k_process.specs.BetweenSteps.{ComesNext, HasDone}
 use Rattle.k_process.specs.Worlds.{WorldValue}
 use Rattle.k_operate.specs.Adding.{AddsEnd, AddsOne}
 use Rattle.k_operate.specs.Steps.{HasDoneAlone, PairStands}

@@ -8,7 +8,7 @@ use Rattle.k_process.specs.k_book.Books.{BookRecord}
 use Rattle.k_process.specs.k_cell.Holdings.{HoldingsValue}
 use Rattle.k_process.specs.Keeping.{KernelKeeps}
 use Rattle.k_process.specs.declared.process.Process.{Process}
-use Rattle.k_process.specs.Standing.{ComesNext, IsThroughWith, ProcessStands}
+use Rattle.k_process.specs.BetweenSteps.{ComesNext, IsThroughWith, ProcessStands}
 use Rattle.k_process.specs.Worlds.{WorldValue}
 use Rattle.k_operate.specs.Adding.{known_to}
 use Rattle.k_operate.specs.Collecting.{HasSameLeft}

@@ -4,9 +4,9 @@ use Rattle.k_types.specs.declared.op.Op.{Op}
 use Rattle.k_types.specs.declared.op.Op.TheVariants.{Collect, Exit, KCollect}
 use Rattle.k_types.specs.Trace.{Trace}
 use Rattle.k_process.specs.k_heap.Heaps.{HeapRecord}
-use Rattle.k_moves.specs.Shown.{idle_part}
-use Rattle.k_squares.specs.Locals.{is_local_in}
-use Rattle.k_process.specs.Standing.{ComesNext}
+use Rattle.k_agree.specs.Shown.{idle_part}
+use Rattle.k_laws.specs.Locals.{is_local_in}
+use Rattle.k_process.specs.BetweenSteps.{ComesNext}
 
 -- the operation begins a collection, or ends its process: it is done by calls of its own, all others are done by a step
 abbrev pub begins_or_ends : Op → Bool

@@ -2,7 +2,7 @@
 ghost use Rattle.k_operate.specs.Adding.{AddsOperation, known_to};
 ghost use Rattle.k_operate.specs.Absorbing.{CanAbsorbOrphan, CanCollectKernel, HasAbsorbedOrphan, HasAbsorbedOrphans};
 ghost use Rattle.k_operate.specs.Steps.{HasDoneNext};
-ghost use Rattle.k_process.specs.Standing.{RestStands};
+ghost use Rattle.k_process.specs.BetweenSteps.{RestStands};
 ghost use Rattle.k_process.specs.Worlds.{WorldValue};
 ghost use Rattle.k_types.specs.declared.op.Op.TheVariants.{KCollect};
 

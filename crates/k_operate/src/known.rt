@@ -1,5 +1,5 @@
 //! What the tables of cells and of the book keep, told where a step asks for it.
-ghost use Rattle.k_base.specs.Distinct.{AreDistinctNames};
+ghost use Rattle.k_types.specs.Distinct.{AreDistinctNames};
 ghost use Rattle.k_process.specs.k_book.Books.{book_entries};
 ghost use Rattle.k_entry.specs.Entries.{AreEntries};
 

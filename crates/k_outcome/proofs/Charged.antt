@@ -8,13 +8,13 @@ use Rattle.k_types.specs.Owners.{bytes_of, charge_of, shared, user}
 use Rattle.k_types.specs.State.{Sharing, State, has_share}
 use Rattle.k_types.specs.Totals.{total}
 use Rattle.k_types.specs.Trace.{limit_of, process_count}
-use Rattle.k_base.proofs.Lists.{numbers_push}
-use Rattle.k_base.proofs.Sums.{total_push}
-use Rattle.k_changes.proofs.SharedSums.{shares_sum}
-use Rattle.k_known.proofs.Maxima.{max_small}
+use Rattle.k_types.proofs.Lists.{numbers_push}
+use Rattle.k_types.proofs.Sums.{total_push}
+use Rattle.k_laws.proofs.SharedSums.{shares_sum}
+use Rattle.k_laws.proofs.KnownMaxima.{max_small}
 use Rattle.k_outcome.specs.Ends.{EndValue, IsEnd, journal_of, last_state}
 use Rattle.k_outcome.proofs.Told.{sound}
-use Rattle.k_base.proofs.Charges.{charge_at_most}
+use Rattle.k_types.proofs.Charges.{charge_at_most}
 
 -- the bytes of the shared heap where the process shares it
 abbrev pub weight : EndValue → ℕ → ℕ → ℕ

@@ -4,12 +4,12 @@ use Rattle.std.proofs.lemmas.Bool.{cases_eq}
 use Rattle.std.proofs.lemmas.List.{get_or-set_other, get_or-set_same, length-map, length-set}
 use Rattle.std.proofs.lemmas.Option.{slice_get-get_or}
 use Rattle.k_types.specs.declared.names.Name.{Name}
-use Rattle.k_base.specs.Distinct.{AreDistinctNames}
-use Rattle.k_base.proofs.Numbered.{element_at}
+use Rattle.k_types.specs.Distinct.{AreDistinctNames}
+use Rattle.k_types.proofs.Numbered.{element_at}
 use Rattle.k_types.specs.Trace.{Trace, segment_count}
 use Rattle.k_text.specs.Shown.{in_order}
-use Rattle.k_shown.specs.Heaps.{heap_at}
-use Rattle.k_shown.proofs.Arranged.{row_at}
+use Rattle.k_text.specs.Heaps.{heap_at}
+use Rattle.k_text.proofs.Arranged.{row_at}
 use Rattle.k_process.specs.Over.{OutcomeValue}
 use Rattle.k_outcome.specs.Cells.{cell_at}
 use Rattle.k_outcome.specs.Listed.{AreTargets, CanList}

@@ -19,14 +19,14 @@ use Rattle.k_types.specs.State.{State, opening, register}
 use Rattle.k_types.specs.Steps.{IsLegalHistory, IsPossible, IsRun, run, state_after}
 use Rattle.k_types.specs.Trace.{Trace}
 use Rattle.k_types.specs.Updates.{add_share, clear_registers, close, close_scan, count_done, create, end_process, keep_exits, keep_objects, keep_shares, open_scan, set_max, set_phase, set_register, turn_exits}
-use Rattle.k_bounds.proofs.Counting.{count_low, one_if_low}
-use Rattle.k_bounds.proofs.SerialBounds.{serials_at_most_allocations}
-use Rattle.k_bounds.specs.Counts.{has_allocated_in}
-use Rattle.k_base.proofs.Lists.{if_some}
-use Rattle.k_frame.proofs.Sizes.{history_sized}
-use Rattle.k_frame.proofs.Rest.{freeze_rest, kill_rest, put_rest, store_rest}
+use Rattle.k_laws.proofs.Counting.{count_low, one_if_low}
+use Rattle.k_laws.proofs.SerialBounds.{serials_at_most_allocations}
+use Rattle.k_laws.specs.Counts.{has_allocated_in}
+use Rattle.k_types.proofs.Lists.{if_some}
+use Rattle.k_laws.proofs.Sizes.{history_sized}
+use Rattle.k_laws.proofs.Rest.{freeze_rest, kill_rest, put_rest, store_rest}
 use Rattle.k_outcome.specs.Listed.{made_by, made_in_reply, with_given}
-use Rattle.k_setup.proofs.Shapes.{all_got}
+use Rattle.k_laws.proofs.SetupShapes.{all_got}
 
 module _ (trace : Trace) where
   effect_given : (st : State) (p : ℕ) (op : Op) → (effect trace p op st).made ≡ with_given (made_in_reply (answer trace st p op)) st.made

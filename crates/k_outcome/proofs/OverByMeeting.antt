@@ -2,7 +2,7 @@
 use Rattle.std.proofs.Common.{◌≡◌, ◌∙◌}
 use Rattle.std.proofs.lemmas.List.{length-map}
 use Rattle.k_types.specs.Trace.{Trace}
-use Rattle.k_setup.specs.Setups.{setup_of}
+use Rattle.k_laws.specs.Setups.{setup_of}
 use Rattle.k_process.specs.declared.process.Process.{Process}
 use Rattle.k_process.specs.Heaps.{HeapsValue}
 use Rattle.k_process.specs.Worlds.{WorldValue}

@@ -4,7 +4,7 @@ use Rattle.std.proofs.lemmas.Bool.Decides.{nat_tests}
 use Rattle.k_types.specs.declared.names.Heap.TheVariants.{Kernel, Shared, User}
 use Rattle.k_types.specs.declared.names.Name.{Name}
 use Rattle.k_types.specs.Trace.{IsHeap, Trace, process_count, segment_count, segment_of}
-use Rattle.k_shown.specs.Heaps.{heap_at}
+use Rattle.k_text.specs.Heaps.{heap_at}
 use Rattle.k_outcome.specs.Listed.{AreEmpty}
 
 -- each segment of the trace begins some heap of the trace

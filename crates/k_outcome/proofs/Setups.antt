@@ -7,17 +7,16 @@ use Rattle.k_types.specs.declared.names.Pid.{Pid}
 use Rattle.k_types.specs.declared.names.SharedId.{SharedId}
 use Rattle.k_types.specs.Agree.{BookValue, CellValue}
 use Rattle.k_types.specs.Cells.{book_part, part}
-use Rattle.k_types.specs.State.{State, opening}
+use Rattle.k_types.specs.State.{State, opening, ExitItem}
 use Rattle.k_types.specs.Steps.{IsLegalHistory, state_after}
 use Rattle.k_types.specs.Trace.{IsHeap, Trace, segment_count}
 use Rattle.k_types.specs.TraceRules.{KeepsRules}
 use Rattle.k_types.specs.Names.{heap_eq}
-use Rattle.k_types.specs.State.{ExitItem}
-use Rattle.k_bounds.specs.Counts.{exit_count}
-use Rattle.k_bounds.proofs.Counting.{count_low}
+use Rattle.k_laws.specs.Counts.{exit_count}
+use Rattle.k_laws.proofs.Counting.{count_low}
 use Rattle.k_laws.proofs.SoundSteps.{legal_sound}
-use Rattle.k_known.proofs.Counted.{all_ordered}
-use Rattle.k_known.proofs.Laws.{events_are_known}
+use Rattle.k_laws.proofs.KnownCounted.{all_ordered}
+use Rattle.k_laws.proofs.KnownLaws.{events_are_known}
 use Rattle.k_agree.specs.Agreement.{BookShows, Shows}
 use Rattle.k_agree.specs.Rooms.{AreFirst}
 use Rattle.k_agree.proofs.WithinRooms.{fits_rooms}
@@ -28,10 +27,10 @@ use Rattle.k_process.proofs.RoomLeft.{shared_room}
 use Rattle.k_trace.specs.Named.{DeclaredNames}
 use Rattle.k_text.specs.Report.{report_text, text_over}
 use Rattle.k_text.proofs.Setups.{setup_alone}
-use Rattle.k_setup.specs.Setups.{setup_of}
-use Rattle.k_shown.specs.Heaps.{heap_at}
-use Rattle.k_setup.proofs.Lines.{setup_rules}
-use Rattle.k_setup.proofs.Unread.{legal_unread, run_unread}
+use Rattle.k_laws.specs.Setups.{setup_of}
+use Rattle.k_text.specs.Heaps.{heap_at}
+use Rattle.k_laws.proofs.SetupLines.{setup_rules}
+use Rattle.k_laws.proofs.Unread.{legal_unread, run_unread}
 use Rattle.k_process.specs.Over.{OutcomeValue}
 use Rattle.k_outcome.specs.Cells.{IsThere, cell_at, process_value, shared_value}
 use Rattle.k_outcome.specs.Ends.{EndsRun, IsEnd}

@@ -7,9 +7,9 @@ use Rattle.k_types.specs.declared.names.Name.{Name}
 use Rattle.k_types.specs.Names.{name_among}
 use Rattle.k_types.specs.Sound.{AreDistinctExits}
 use Rattle.k_types.specs.State.{ExitItem, has_exit}
-use Rattle.k_base.specs.Distinct.{AreDistinctNames}
+use Rattle.k_types.specs.Distinct.{AreDistinctNames}
 use Rattle.k_text.specs.Shown.{in_order}
-use Rattle.k_shown.proofs.Sorted.{sorted_exits, targets_among, targets_of}
+use Rattle.k_text.proofs.Sorted.{sorted_exits, targets_among, targets_of}
 
 -- exit items of one heap with these targets
 abbrev items : List Name → List ExitItem

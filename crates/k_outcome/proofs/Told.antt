@@ -20,28 +20,28 @@ use Rattle.k_types.specs.Sound.{IsSound}
 use Rattle.k_types.specs.State.{Holds, Object, State, fields_of, has, object_at, register}
 use Rattle.k_types.specs.Totals.{total}
 use Rattle.k_types.specs.Trace.{IsHeap, process_count, segment_count}
-use Rattle.k_base.proofs.Lists.{numbers_length}
-use Rattle.k_base.proofs.Maxima.{length_in}
-use Rattle.k_base.proofs.NameTests.{heap_eq_refl}
-use Rattle.k_base.proofs.Objects.{is_some-object_at, object_at-kept}
-use Rattle.k_frame.specs.PartUpdates.{held_in}
+use Rattle.k_types.proofs.Lists.{numbers_length}
+use Rattle.k_types.proofs.Maxima.{length_in}
+use Rattle.k_types.proofs.NameTests.{heap_eq_refl}
+use Rattle.k_types.proofs.Objects.{is_some-object_at, object_at-kept}
+use Rattle.k_laws.specs.PartUpdates.{held_in}
 use Rattle.k_laws.proofs.SoundSteps.{legal_sound}
-use Rattle.k_bounds.specs.Counts.{has_stored}
-use Rattle.k_bounds.proofs.AllExits.{exits_at_most_stores}
-use Rattle.k_bounds.proofs.Counting.{count_low}
-use Rattle.k_known.proofs.Laws.{events_are_known, objects_fit_their_types}
+use Rattle.k_laws.specs.Counts.{has_stored}
+use Rattle.k_laws.proofs.AllExits.{exits_at_most_stores}
+use Rattle.k_laws.proofs.Counting.{count_low}
+use Rattle.k_laws.proofs.KnownLaws.{events_are_known, objects_fit_their_types}
 use Rattle.k_book.specs.Books.{BookRecord}
 use Rattle.k_book.specs.Machine.{TellsTheLimits, TellsTheMachine}
 use Rattle.k_book.proofs.Telling.{tells, tells_limits}
 use Rattle.k_cell.specs.Looks.{field_among, field_count_among, type_among, type_of_some}
 use Rattle.k_text.specs.Shown.{exits_of, in_order, type_at}
 use Rattle.k_text.proofs.InOrder.{in_order_among, in_order_rises, rising_exits}
-use Rattle.k_shown.proofs.Arranged.{exits_length}
+use Rattle.k_text.proofs.Arranged.{exits_length}
 use Rattle.k_process.specs.Over.{OutcomeValue}
 use Rattle.k_outcome.specs.Cells.{IsThere, cell_at}
 use Rattle.k_outcome.specs.Ends.{EndValue, IsEnd, journal_of, last_state}
-use Rattle.k_setup.proofs.Shapes.{all_got}
-use Rattle.k_base.proofs.Owners.{owner_known}
+use Rattle.k_laws.proofs.SetupShapes.{all_got}
+use Rattle.k_types.proofs.Owners.{owner_known}
 
 type_told : (o : Option Object) → type_of_some o ≡ option_and_then (λ (x : Object). x.ty) o
 type_told None = refl

@@ -8,8 +8,8 @@ use Rattle.k_types.specs.Names.{name_eq, name_lt}
 use Rattle.k_types.specs.Sound.{AreNumbered, ArePlaced, IsOrdered}
 use Rattle.k_types.specs.State.{Object, has}
 use Rattle.k_types.specs.Trace.{Trace, segment_count}
-use Rattle.k_base.proofs.NameTests.{name_eq-true, name_eq_refl, by_segment_lt, by_serial_lt}
-use Rattle.k_base.proofs.Ordered.{ordered_tail, ordered_later}
+use Rattle.k_types.proofs.NameTests.{name_eq-true, name_eq_refl, by_segment_lt, by_serial_lt}
+use Rattle.k_types.proofs.Ordered.{ordered_tail, ordered_later}
 use Rattle.k_text.specs.Shown.{comes_after, next_name_after}
 use Rattle.k_outcome.specs.Listed.{HasNoneAfter, HasNoneBetween, IsNextIn, name_at, start_of}
 

@@ -10,7 +10,7 @@ use Rattle.k_agree.specs.Agreement.{BookShows, Shows}
 use Rattle.k_agree.specs.Rooms.{event_room}
 use Rattle.k_book.specs.Machine.{IsBookOf}
 use Rattle.k_trace.specs.Named.{DeclaredNames}
-use Rattle.k_setup.specs.Setups.{AreSetupRules, setup_of}
+use Rattle.k_laws.specs.Setups.{AreSetupRules, setup_of}
 use Rattle.k_process.specs.Over.{IsOutcome, OutcomeValue}
 use Rattle.k_outcome.specs.Cells.{IsThere, cell_at}
 

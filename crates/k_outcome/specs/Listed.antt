@@ -13,13 +13,13 @@ use Rattle.k_types.specs.Known.{IsKnownEvent}
 use Rattle.k_types.specs.State.{Object, has}
 use Rattle.k_types.specs.Steps.{IsLegalHistory}
 use Rattle.k_types.specs.Trace.{IsHeap, Trace, operations_of, segment_count, segment_of}
-use Rattle.k_base.specs.Distinct.{AreDistinctNames}
-use Rattle.k_bounds.specs.Counts.{stores_in}
+use Rattle.k_types.specs.Distinct.{AreDistinctNames}
+use Rattle.k_laws.specs.Counts.{stores_in}
 use Rattle.k_agree.specs.Rooms.{exit_room}
 use Rattle.k_process.specs.Rooms.{shared_exit_room}
 use Rattle.k_text.specs.Shown.{in_order}
 use Rattle.k_process.specs.Over.{OutcomeValue}
-use Rattle.k_shown.specs.Heaps.{heap_at}
+use Rattle.k_text.specs.Heaps.{heap_at}
 use Rattle.k_outcome.specs.Cells.{IsThere, cell_at}
 use Rattle.k_outcome.specs.Ends.{EndValue, EndsRun, IsEnd, last_state}
 

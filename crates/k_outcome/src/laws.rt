@@ -5,7 +5,7 @@ ghost use Rattle.k_types.specs.Steps.{state_after};
 ghost use Rattle.k_types.specs.Trace.{Trace};
 ghost use Rattle.k_trace.specs.Named.{DeclaredNames};
 ghost use Rattle.k_text.specs.Report.{report_text, text_over};
-ghost use Rattle.k_setup.specs.Setups.{setup_of};
+ghost use Rattle.k_laws.specs.Setups.{setup_of};
 
 /// The machine goes by the setup of a trace alone, and so does a report: what an outcome shows, over the setup, has the report of
 /// the trace and the journal. Source: own.

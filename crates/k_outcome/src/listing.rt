@@ -2,9 +2,9 @@
 ghost use Rattle.std.specs.Prelude.{◌≡◌, ◌+◌, ◌<◌, ◌≤◌, ◌^◌, [], IfSome, length, map, slice_index_or, vec_capacity};
 ghost use Rattle.k_types.specs.Steps.{state_after};
 ghost use Rattle.k_types.specs.Trace.{IsHeap, Trace, segment_count, segment_of, trace_of};
-ghost use Rattle.k_base.specs.Distinct.{AreDistinctNames};
+ghost use Rattle.k_types.specs.Distinct.{AreDistinctNames};
 ghost use Rattle.k_text.specs.Shown.{in_order};
-ghost use Rattle.k_shown.specs.Heaps.{heap_at};
+ghost use Rattle.k_text.specs.Heaps.{heap_at};
 ghost use Rattle.k_outcome.specs.Cells.{IsThere, cell_at};
 ghost use Rattle.k_outcome.specs.Listed.{AreTargets, CanCount, CanList, made_by, with_given};
 

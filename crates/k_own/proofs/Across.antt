@@ -17,19 +17,19 @@ use Rattle.k_types.specs.Names.{heap_eq, kind_of}
 use Rattle.k_types.specs.Replies.{fault_where, first_fault, is_ref, reference, refused_or}
 use Rattle.k_types.specs.State.{Refers}
 use Rattle.k_types.specs.Trace.{Trace}
-use Rattle.k_base.proofs.NameTests.{heap_eq_refl}
-use Rattle.k_changes.specs.BookChanges.{owner_in, with_entry, with_pin_moved}
-use Rattle.k_changes.specs.CellChanges.{with_exit_to}
-use Rattle.k_frame.specs.PartUpdates.{held_in, with_done, with_register, with_written}
-use Rattle.k_commit.specs.k_moves.Moves.{GivesAlone}
-use Rattle.k_commit.specs.k_moves.Shown.{part_alone}
+use Rattle.k_types.proofs.NameTests.{heap_eq_refl}
+use Rattle.k_laws.specs.BookChanges.{owner_in, with_entry, with_pin_moved}
+use Rattle.k_laws.specs.CellChanges.{with_exit_to}
+use Rattle.k_laws.specs.PartUpdates.{held_in, with_done, with_register, with_written}
+use Rattle.k_commit.specs.k_agree.Moves.{GivesAlone}
+use Rattle.k_commit.specs.k_agree.Shown.{part_alone}
 use Rattle.k_commit.proofs.Given.{own_store, own_store_refused}
 use Rattle.k_commit.proofs.Stored.{an_exit}
-use Rattle.k_squares.specs.Answers.{access_faults_in, answer_in, faults_in, field_count_in, field_in, load_faults_in, passes_barrier_in, reference_from_in, reply_in, store_faults_in}
-use Rattle.k_squares.specs.BookAfter.{book_after, book_operated}
-use Rattle.k_squares.specs.CellAfter.{cell_after, cells_operated, with_exit_for}
-use Rattle.k_squares.specs.Locals.{is_own_field_in}
-use Rattle.k_squares.specs.Touches.{other_cells_in}
+use Rattle.k_laws.specs.Answers.{access_faults_in, answer_in, faults_in, field_count_in, field_in, load_faults_in, passes_barrier_in, reference_from_in, reply_in, store_faults_in}
+use Rattle.k_laws.specs.BookAfter.{book_after, book_operated}
+use Rattle.k_laws.specs.CellAfter.{cell_after, cells_operated, with_exit_for}
+use Rattle.k_laws.specs.Locals.{is_own_field_in}
+use Rattle.k_laws.specs.Touches.{other_cells_in}
 
 -- the parts of a test that fails though the object is own
 test_fails : (mine no_field wrong fine : Bool) → (mine && (no_field || wrong || fine)) ≡ false → mine ≡ true → (no_field ≡ false) × (wrong ≡ false) × (fine ≡ false)

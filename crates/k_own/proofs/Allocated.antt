@@ -21,23 +21,23 @@ use Rattle.k_types.specs.Steps.{in_range, state_after}
 use Rattle.k_types.specs.Totals.{total}
 use Rattle.k_types.specs.Trace.{kinds_of, limit_of, segment_count, segment_of, size_of_type}
 use Rattle.k_types.specs.Types.{object_size}
-use Rattle.k_base.proofs.Lists.{some_inside}
-use Rattle.k_base.proofs.NameTests.{heap_eq_refl}
-use Rattle.k_frame.proofs.OwnerOf.{owner_user}
+use Rattle.k_types.proofs.Lists.{some_inside}
+use Rattle.k_types.proofs.NameTests.{heap_eq_refl}
+use Rattle.k_laws.proofs.OwnerOf.{owner_user}
 use Rattle.k_space.specs.Objects.{BodyValue, new_body}
 use Rattle.k_commit.specs.k_book.Books.{BookRecord}
 use Rattle.k_commit.specs.k_cell.Changes.{next_in, with_body}
 use Rattle.k_commit.specs.k_cell.Holdings.{HasObjectRoom}
-use Rattle.k_changes.specs.BookChanges.{owner_in, with_charge, with_pin_moved}
-use Rattle.k_changes.specs.CellChanges.{next_name_in, with_created}
-use Rattle.k_frame.specs.PartUpdates.{held_in, with_done, with_register}
+use Rattle.k_laws.specs.BookChanges.{owner_in, with_charge, with_pin_moved}
+use Rattle.k_laws.specs.CellChanges.{next_name_in, with_created}
+use Rattle.k_laws.specs.PartUpdates.{held_in, with_done, with_register}
 use Rattle.k_commit.specs.k_heap.Heaps.{HeapRecord, holdings_of, own_segment}
-use Rattle.k_commit.specs.k_moves.Moves.{GivesAlone}
-use Rattle.k_commit.specs.k_moves.Shown.{idle_part}
+use Rattle.k_commit.specs.k_agree.Moves.{GivesAlone}
+use Rattle.k_commit.specs.k_agree.Shown.{idle_part}
 use Rattle.k_commit.proofs.Changed.{new_shown}
 use Rattle.k_commit.proofs.Given.{new_alone, new_refused}
 use Rattle.k_commit.specs.Changed.{CanSetRegister, ChangesValues, HasChanged, HasSetRegister, bodies_after}
-use Rattle.k_squares.specs.Answers.{size_fault_in}
+use Rattle.k_laws.specs.Answers.{size_fault_in}
 use Rattle.k_commit.specs.Charging.{HasCharged, IsFullFor}
 use Rattle.k_commit.specs.Met.{Before}
 use Rattle.k_commit.proofs.Fitting.{bytes_small}

@@ -20,14 +20,14 @@ use Rattle.k_types.specs.Replies.{at_base, fault_where, first_fault, is_foreign}
 use Rattle.k_types.specs.Trace.{Trace}
 use Rattle.k_space.specs.Objects.{BodyValue}
 use Rattle.k_commit.specs.k_book.Books.{BookRecord}
-use Rattle.k_changes.specs.BookChanges.{owner_in}
-use Rattle.k_frame.specs.PartUpdates.{held_in, with_done}
+use Rattle.k_laws.specs.BookChanges.{owner_in}
+use Rattle.k_laws.specs.PartUpdates.{held_in, with_done}
 use Rattle.k_commit.specs.k_heap.Heaps.{HeapRecord}
-use Rattle.k_commit.specs.k_moves.Moves.{GivesAlone}
-use Rattle.k_commit.specs.k_moves.Shown.{idle_part, part_alone}
+use Rattle.k_commit.specs.k_agree.Moves.{GivesAlone}
+use Rattle.k_commit.specs.k_agree.Shown.{idle_part, part_alone}
 use Rattle.k_commit.proofs.Given.{refused_alone}
-use Rattle.k_squares.specs.Answers.{access_faults_in, faults_in, load_faults_in, number_faults_in, sharer_fault_in, store_faults_in}
-use Rattle.k_squares.specs.Touches.{access_cell_in, base_cell_in, other_cells_in}
+use Rattle.k_laws.specs.Answers.{access_faults_in, faults_in, load_faults_in, number_faults_in, sharer_fault_in, store_faults_in}
+use Rattle.k_laws.specs.Touches.{access_cell_in, base_cell_in, other_cells_in}
 use Rattle.k_commit.specs.Changed.{HasChanged, bodies_after}
 use Rattle.k_commit.specs.Met.{Before}
 use Rattle.k_commit.proofs.Setting.{own_by_segment}

@@ -15,13 +15,13 @@ use Rattle.k_types.specs.Steps.{in_range}
 use Rattle.k_types.specs.Trace.{process_count}
 use Rattle.k_commit.specs.k_book.Books.{BookRecord}
 use Rattle.k_commit.specs.k_book.Machine.{IsBookOf}
-use Rattle.k_changes.specs.BookChanges.{owner_in}
-use Rattle.k_frame.specs.PartUpdates.{with_done}
+use Rattle.k_laws.specs.BookChanges.{owner_in}
+use Rattle.k_laws.specs.PartUpdates.{with_done}
 use Rattle.k_commit.specs.k_heap.Heaps.{HeapRecord}
-use Rattle.k_commit.specs.k_moves.Moves.{GivesAlone}
-use Rattle.k_commit.specs.k_moves.Shown.{idle_part, part_alone}
+use Rattle.k_commit.specs.k_agree.Moves.{GivesAlone}
+use Rattle.k_commit.specs.k_agree.Shown.{idle_part, part_alone}
 use Rattle.k_commit.proofs.Killing.{kill_idle, kill_refused, resize_alone}
-use Rattle.k_squares.specs.Touches.{ends_other_in, other_cells_in}
+use Rattle.k_laws.specs.Touches.{ends_other_in, other_cells_in}
 use Rattle.k_commit.specs.Changed.{HasChanged}
 use Rattle.k_commit.specs.Met.{Before}
 use Rattle.k_commit.specs.Resizing.{CanResize, HasResized}

@@ -19,21 +19,21 @@ use Rattle.k_types.specs.Names.{heap_eq, kind_of, name_among}
 use Rattle.k_types.specs.Replies.{is_ref, reference}
 use Rattle.k_types.specs.State.{Content, Holds, Refers}
 use Rattle.k_types.specs.Steps.{in_range, state_after}
-use Rattle.k_base.proofs.NameTests.{heap_eq-true}
+use Rattle.k_types.proofs.NameTests.{heap_eq-true}
 use Rattle.k_commit.specs.k_book.Books.{BookRecord}
 use Rattle.k_commit.specs.k_cell.Changes.{with_exit_item, with_field}
 use Rattle.k_commit.specs.k_cell.Looks.{field_among}
-use Rattle.k_changes.specs.BookChanges.{owner_in, with_entry}
-use Rattle.k_changes.specs.CellChanges.{with_exit_to}
+use Rattle.k_laws.specs.BookChanges.{owner_in, with_entry}
+use Rattle.k_laws.specs.CellChanges.{with_exit_to}
 use Rattle.k_entry.specs.Entries.{home_of}
-use Rattle.k_frame.specs.PartUpdates.{held_in, with_done, with_written}
+use Rattle.k_laws.specs.PartUpdates.{held_in, with_done, with_written}
 use Rattle.k_commit.specs.k_heap.Heaps.{HeapRecord}
-use Rattle.k_commit.specs.k_moves.Moves.{GivesAlone}
-use Rattle.k_commit.specs.k_moves.Shown.{idle_part}
+use Rattle.k_commit.specs.k_agree.Moves.{GivesAlone}
+use Rattle.k_commit.specs.k_agree.Shown.{idle_part}
 use Rattle.k_commit.proofs.Changed.{exit_shown}
-use Rattle.k_squares.specs.Answers.{field_in}
-use Rattle.k_squares.specs.Locals.{is_local_in, is_local_load_in, is_local_store_in}
-use Rattle.k_squares.specs.Touches.{other_cells_in}
+use Rattle.k_laws.specs.Answers.{field_in}
+use Rattle.k_laws.specs.Locals.{is_local_in, is_local_load_in, is_local_store_in}
+use Rattle.k_laws.specs.Touches.{other_cells_in}
 use Rattle.k_commit.specs.Changed.{CanSetRegister, HasChanged, HasSetRegister}
 use Rattle.k_commit.specs.Met.{Before}
 use Rattle.k_commit.proofs.Changing.{values_changed}

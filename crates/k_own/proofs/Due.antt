@@ -12,13 +12,13 @@ use Rattle.k_types.specs.Cells.{BookPart, CellPart}
 use Rattle.k_types.specs.Steps.{in_range, waits_for_orphans}
 use Rattle.k_types.specs.Trace.{Trace, segment_count}
 use Rattle.k_commit.specs.k_book.Books.{BookRecord}
-use Rattle.k_changes.specs.BookChanges.{owner_in, with_pin_moved}
-use Rattle.k_frame.specs.PartUpdates.{held_in, with_done, with_register}
+use Rattle.k_laws.specs.BookChanges.{owner_in, with_pin_moved}
+use Rattle.k_laws.specs.PartUpdates.{held_in, with_done, with_register}
 use Rattle.k_agree.specs.Meeting.{met_note}
 use Rattle.k_commit.specs.k_heap.Heaps.{HeapRecord, holdings_of, own_segment}
-use Rattle.k_commit.specs.k_moves.Moves.{GivesAlone}
-use Rattle.k_commit.specs.k_moves.Shown.{idle_part}
-use Rattle.k_squares.specs.Touches.{other_cells_in}
+use Rattle.k_commit.specs.k_agree.Moves.{GivesAlone}
+use Rattle.k_commit.specs.k_agree.Shown.{idle_part}
+use Rattle.k_laws.specs.Touches.{other_cells_in}
 use Rattle.k_commit.specs.Changed.{CanSetRegister, ChangesValues, HasChanged, HasSetRegister, MayCommit, bodies_after}
 use Rattle.k_commit.specs.Met.{Before, CanMeet, HaveMet, HeapHasMet}
 use Rattle.k_commit.specs.Rooms.{HasEventRoom, HasRoomFor}

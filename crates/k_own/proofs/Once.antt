@@ -8,10 +8,10 @@ use Rattle.k_types.specs.Limits.{is_above}
 use Rattle.k_types.specs.Names.{among}
 use Rattle.k_types.specs.Steps.{state_after}
 use Rattle.k_types.specs.Trace.{Trace}
-use Rattle.k_kept.proofs.Laws.{ended_processes_stay_ended}
+use Rattle.k_laws.proofs.KeptLaws.{ended_processes_stay_ended}
 use Rattle.k_agree.specs.Agreement.{BookAgrees}
 use Rattle.k_commit.specs.k_book.Books.{BookRecord}
-use Rattle.k_squares.specs.Touches.{ends_other_in}
+use Rattle.k_laws.specs.Touches.{ends_other_in}
 
 -- the book tells who has ended
 ended_told : (trace : Trace) (b : BookRecord) (q : ℕ) → BookAgrees trace b.journal b.value → (book_shown_by b.value).ended q ≡ among q (state_after trace b.journal.list).ended

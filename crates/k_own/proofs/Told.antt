@@ -18,25 +18,25 @@ use Rattle.k_types.specs.Owners.{owner_of}
 use Rattle.k_types.specs.State.{State}
 use Rattle.k_types.specs.Steps.{in_range, state_after}
 use Rattle.k_types.specs.Trace.{IsHeap, Trace, process_count, segment_count}
-use Rattle.k_base.proofs.Lists.{numbers_length}
-use Rattle.k_frame.proofs.Sizes.{history_sized}
-use Rattle.k_frame.specs.PartUpdates.{held_in}
+use Rattle.k_types.proofs.Lists.{numbers_length}
+use Rattle.k_laws.proofs.Sizes.{history_sized}
+use Rattle.k_laws.specs.PartUpdates.{held_in}
 use Rattle.k_laws.proofs.SoundSteps.{legal_sound}
 use Rattle.k_agree.proofs.Openings.{home_at}
 use Rattle.k_commit.specs.k_book.Books.{BookRecord}
-use Rattle.k_changes.specs.BookChanges.{owner_in}
-use Rattle.k_changes.proofs.Laws.{the_book_tells_the_owners}
-use Rattle.k_changes.proofs.ToldBy.{register_told}
+use Rattle.k_laws.specs.BookChanges.{owner_in}
+use Rattle.k_laws.proofs.ChangesLaws.{the_book_tells_the_owners}
+use Rattle.k_laws.proofs.ToldBy.{register_told}
 use Rattle.k_entry.specs.Entries.{home_of}
 use Rattle.k_commit.specs.k_heap.Heaps.{HeapRecord}
-use Rattle.k_commit.specs.k_moves.Shown.{idle_part}
+use Rattle.k_commit.specs.k_agree.Shown.{idle_part}
 use Rattle.k_commit.proofs.Idle.{part_shown}
-use Rattle.k_squares.proofs.Laws.{touched_cells_are_told}
-use Rattle.k_squares.specs.Touches.{other_cells_in}
+use Rattle.k_laws.proofs.SquaresLaws.{touched_cells_are_told}
+use Rattle.k_laws.specs.Touches.{other_cells_in}
 use Rattle.k_commit.specs.Met.{Before, HaveMet}
 use Rattle.k_commit.proofs.Placed.{register_is_placed}
 use Rattle.k_own.specs.Reaching.{CanReach, CanReachEnd, CanReachOwner, CanReachThrough}
-use Rattle.k_base.proofs.Owners.{owner_known}
+use Rattle.k_types.proofs.Owners.{owner_known}
 
 module _ (trace : Trace) (c : HeapRecord) (b : BookRecord) (r : ℕ) (can : CanReachThrough trace c b r) where
   -- the state that the cell shows, and that of the book

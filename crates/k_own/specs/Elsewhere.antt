@@ -9,7 +9,7 @@ use Rattle.k_types.specs.declared.op.Op.{Op}
 use Rattle.k_types.specs.declared.op.Op.TheVariants.{Store, Load, Put, Get}
 use Rattle.k_types.specs.Local.{is_own}
 use Rattle.k_commit.specs.k_book.Books.{BookRecord}
-use Rattle.k_frame.specs.PartUpdates.{held_in}
+use Rattle.k_laws.specs.PartUpdates.{held_in}
 use Rattle.k_commit.specs.k_heap.Heaps.{HeapRecord}
 use Rattle.k_commit.specs.Met.{Before}
 use Rattle.k_own.specs.Own.{IsDue}

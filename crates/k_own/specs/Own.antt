@@ -7,9 +7,9 @@ use Rattle.k_types.specs.Trace.{Trace}
 use Rattle.k_agree.specs.Meeting.{Fits}
 use Rattle.k_commit.specs.k_book.Books.{BookRecord}
 use Rattle.k_commit.specs.k_heap.Heaps.{HeapRecord, holdings_of, own_segment}
-use Rattle.k_commit.specs.k_moves.Shown.{idle_part}
-use Rattle.k_squares.specs.Locals.{is_local_in}
-use Rattle.k_squares.specs.Touches.{other_cells_in}
+use Rattle.k_commit.specs.k_agree.Shown.{idle_part}
+use Rattle.k_laws.specs.Locals.{is_local_in}
+use Rattle.k_laws.specs.Touches.{other_cells_in}
 use Rattle.k_commit.specs.Changed.{MayCommit}
 use Rattle.k_commit.specs.Met.{Before, HaveMet}
 use Rattle.k_commit.specs.Rooms.{CanOperate, HasTableRoom}

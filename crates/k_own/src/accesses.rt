@@ -3,10 +3,10 @@
 ghost use Rattle.std.specs.Prelude.{◌≡◌, ◌<◌, ◌+◌, ◌-◌, ◌==◌, ◌^◌, false, not, IsTrue, Some, is_some, length, option_map};
 ghost use Rattle.k_commit.specs.k_cell.Changes.{with_exit_item, with_field};
 ghost use Rattle.k_commit.specs.k_cell.Looks.{field_among};
-ghost use Rattle.k_changes.specs.BookChanges.{with_entry};
+ghost use Rattle.k_laws.specs.BookChanges.{with_entry};
 ghost use Rattle.k_commit.specs.Met.{Before};
 ghost use Rattle.k_commit.specs.Stepped.{HasStepped};
-ghost use Rattle.k_frame.specs.PartUpdates.{held_in};
+ghost use Rattle.k_laws.specs.PartUpdates.{held_in};
 ghost use Rattle.k_own.specs.Elsewhere.{IsAway, fault_of_owner};
 ghost use Rattle.k_own.specs.Own.{IsDue};
 ghost use Rattle.k_space.specs.Objects.{content_of};

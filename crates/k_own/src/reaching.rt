@@ -1,8 +1,8 @@
 //! The cells beside the process's own that an operation touches.
 ghost use Rattle.std.specs.Prelude.{◌≡◌, ◌∷◌, [], Some, if◌then◌else◌};
-ghost use Rattle.k_frame.specs.PartUpdates.{held_in};
-ghost use Rattle.k_commit.specs.k_moves.Shown.{idle_part};
-ghost use Rattle.k_squares.specs.Touches.{access_cell_in, base_cell_in, ends_other_in, other_cells_in};
+ghost use Rattle.k_laws.specs.PartUpdates.{held_in};
+ghost use Rattle.k_commit.specs.k_agree.Shown.{idle_part};
+ghost use Rattle.k_laws.specs.Touches.{access_cell_in, base_cell_in, ends_other_in, other_cells_in};
 ghost use Rattle.k_own.specs.Reaching.{CanReach, CanReachEnd, CanReachOwner, CanReachThrough, cells_of};
 ghost use Rattle.k_types.specs.Agree.{book_shown_by};
 ghost use Rattle.k_types.specs.Trace.{Trace};
@@ -58,9 +58,9 @@ fn reach_end(book: &Book, pid: Pid, target: Pid) -> Reach
 /// The cells that the operation touches beside its process's own, as cell and book are now; a cell that has met the journal is
 /// as the machine has it. While the process's cell is held the answer changes at most once: from `Own` to `Kernel`, where the
 /// kernel takes over the object, with the shared heap that it absorbs or with the heap of another process that ends; or from `End`
-/// to `Own`, where the target has ended (`reached_cells_change_at_most_once` of `k_kept`). Constant time, but that a kill passes
+/// to `Own`, where the target has ended (`reached_cells_change_at_most_once` of `k_laws`). Constant time, but that a kill passes
 /// the limits above the target's.
-#[tactic(auto, unfolding(k_squares::specs::Touches::other_cells_in))]
+#[tactic(auto, unfolding(k_laws::specs::Touches::other_cells_in))]
 pub fn reach(cell: &HeapCell, book: &Book, op: &Op) -> Reach
     ghost trace: { Trace }
     requires { CanReach trace cell.now book.now op.now }

@@ -14,10 +14,10 @@ use Rattle.k_types.specs.Replies.{first_fault}
 use Rattle.k_types.specs.Steps.{waits_for_orphans}
 use Rattle.k_types.specs.Trace.{Trace}
 use Rattle.k_space.specs.Objects.{BodyValue}
-use Rattle.k_frame.specs.PartUpdates.{with_done}
-use Rattle.k_squares.specs.Answers.{faults_in}
-use Rattle.k_commit.specs.k_moves.Moves.{GivesBoth, KeepsOwners}
-use Rattle.k_commit.specs.k_moves.Shown.{idle_part, two_parts}
+use Rattle.k_laws.specs.PartUpdates.{with_done}
+use Rattle.k_laws.specs.Answers.{faults_in}
+use Rattle.k_commit.specs.k_agree.Moves.{GivesBoth, KeepsOwners}
+use Rattle.k_commit.specs.k_agree.Shown.{idle_part, two_parts}
 use Rattle.k_commit.proofs.Beside.{refused_beside}
 use Rattle.k_commit.specs.k_book.Books.{BookRecord}
 use Rattle.k_commit.specs.k_heap.Heaps.{HeapRecord}

@@ -9,8 +9,8 @@ use Rattle.k_commit.specs.k_book.Calls.{ChangesEntries}
 use Rattle.k_commit.proofs.OnPart.{entered_on}
 use Rattle.k_commit.specs.k_cell.Changes.{with_exit_item}
 use Rattle.k_entry.specs.Entries.{HasMore}
-use Rattle.k_squares.specs.CellAfter.{with_exit_for}
-use Rattle.k_commit.specs.k_moves.Shown.{idle_part}
+use Rattle.k_laws.specs.CellAfter.{with_exit_for}
+use Rattle.k_commit.specs.k_agree.Shown.{idle_part}
 use Rattle.k_commit.proofs.Changed.{exit_shown}
 use Rattle.k_commit.proofs.Stored.{an_exit, entered, entered_already, inside, no_exit}
 use Rattle.k_commit.specs.Others.{OtherValue, with_value}

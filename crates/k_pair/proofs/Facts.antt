@@ -12,18 +12,18 @@ use Rattle.k_types.specs.Sound.{IsSound}
 use Rattle.k_types.specs.State.{State, has_share}
 use Rattle.k_types.specs.Steps.{has_sharer, state_after}
 use Rattle.k_types.specs.Trace.{Trace, segment_count}
-use Rattle.k_base.proofs.NameTests.{heap_eq-same}
-use Rattle.k_frame.proofs.OwnerOf.{owner_shared}
+use Rattle.k_types.proofs.NameTests.{heap_eq-same}
+use Rattle.k_laws.proofs.OwnerOf.{owner_shared}
 use Rattle.k_laws.proofs.SoundEffects.{is_unmade_so}
 use Rattle.k_laws.proofs.SoundSteps.{legal_sound}
 use Rattle.k_commit.specs.k_book.Books.{BookRecord}
-use Rattle.k_squares.proofs.CellSquares.{populating_phase}
+use Rattle.k_laws.proofs.CellSquares.{populating_phase}
 use Rattle.k_commit.specs.k_heap.Heaps.{HeapRecord}
 use Rattle.k_commit.specs.k_shared.SharedHeaps.{SharedRecord}
 use Rattle.k_commit.specs.Met.{HaveMetWith}
 use Rattle.k_commit.specs.Others.{of_shared}
 use Rattle.k_commit.specs.Standing.{BookStands}
-use Rattle.k_base.proofs.Shares.{sharer_of}
+use Rattle.k_types.proofs.Shares.{sharer_of}
 use Rattle.k_pair.specs.Operating.{as_they_are}
 
 module _ (trace : Trace) (b : BookRecord) (stands : BookStands trace b) where

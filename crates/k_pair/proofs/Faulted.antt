@@ -9,9 +9,9 @@ use Rattle.k_types.specs.Cells.{BookPart, Cell, CellPart}
 use Rattle.k_types.specs.Replies.{fault_where, first_fault, is_ref}
 use Rattle.k_types.specs.State.{Content}
 use Rattle.k_types.specs.Trace.{Trace}
-use Rattle.k_changes.specs.BookChanges.{owner_in}
-use Rattle.k_squares.specs.Answers.{access_faults_in, field_count_in, field_in, is_frozen_in, load_faults_in, number_faults_in, passes_barrier_in, store_faults_in}
-use Rattle.k_squares.specs.Touches.{base_cell_in}
+use Rattle.k_laws.specs.BookChanges.{owner_in}
+use Rattle.k_laws.specs.Answers.{access_faults_in, field_count_in, field_in, is_frozen_in, load_faults_in, number_faults_in, passes_barrier_in, store_faults_in}
+use Rattle.k_laws.specs.Touches.{base_cell_in}
 use Rattle.k_pair.specs.Faults.{field_faults, store_faults}
 
 -- the first fault of the one list, or else of the other

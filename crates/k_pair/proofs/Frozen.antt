@@ -16,13 +16,13 @@ use Rattle.k_types.specs.Names.{heap_eq}
 use Rattle.k_types.specs.Owners.{is_absorbed, phase_of}
 use Rattle.k_types.specs.Replies.{is_populating}
 use Rattle.k_types.specs.Trace.{Trace, segment_count}
-use Rattle.k_changes.specs.BookChanges.{owner_in}
+use Rattle.k_laws.specs.BookChanges.{owner_in}
 use Rattle.k_entry.specs.Entries.{home_of}
-use Rattle.k_frame.specs.PartUpdates.{held_in, with_done}
-use Rattle.k_commit.specs.k_moves.Moves.{GivesBoth}
-use Rattle.k_commit.specs.k_moves.Shown.{idle_part}
+use Rattle.k_laws.specs.PartUpdates.{held_in, with_done}
+use Rattle.k_commit.specs.k_agree.Moves.{GivesBoth}
+use Rattle.k_commit.specs.k_agree.Shown.{idle_part}
 use Rattle.k_commit.proofs.Idle.{owners_by_absorbed}
-use Rattle.k_squares.proofs.CellSquares.{populating_phase}
+use Rattle.k_laws.proofs.CellSquares.{populating_phase}
 use Rattle.k_commit.specs.k_book.Books.{BookRecord}
 use Rattle.k_commit.specs.k_heap.Heaps.{HeapRecord}
 use Rattle.k_commit.specs.k_shared.SharedHeaps.{SharedRecord, with_phase}

@@ -18,15 +18,15 @@ use Rattle.k_types.specs.Names.{heap_eq}
 use Rattle.k_types.specs.Owners.{phase_of}
 use Rattle.k_types.specs.Replies.{at_base, fault_where, first_fault, is_frozen, is_populating, is_unmade, root_of}
 use Rattle.k_types.specs.Trace.{Trace, kinds_of, limit_of, segment_of, size_of_type}
-use Rattle.k_frame.specs.PartUpdates.{held_in, with_done, with_register}
-use Rattle.k_changes.specs.BookChanges.{owner_in, with_charge, with_phase, with_pin_moved, with_share, with_shared_bytes}
-use Rattle.k_changes.specs.CellChanges.{in_phase, next_name_in, with_created}
-use Rattle.k_squares.specs.Answers.{answer_in, faults_in, freeze_faults_in, reply_in, size_fault_in}
-use Rattle.k_squares.specs.BookAfter.{book_after, book_attached, book_frozen, book_operated}
-use Rattle.k_squares.specs.CellAfter.{at_cell, cell_after, cells_frozen, cells_operated, register_in}
-use Rattle.k_squares.specs.Touches.{other_cells_in}
-use Rattle.k_commit.specs.k_moves.Moves.{GivesBoth}
-use Rattle.k_commit.specs.k_moves.Shown.{two_parts}
+use Rattle.k_laws.specs.PartUpdates.{held_in, with_done, with_register}
+use Rattle.k_laws.specs.BookChanges.{owner_in, with_charge, with_phase, with_pin_moved, with_share, with_shared_bytes}
+use Rattle.k_laws.specs.CellChanges.{in_phase, next_name_in, with_created}
+use Rattle.k_laws.specs.Answers.{answer_in, faults_in, freeze_faults_in, reply_in, size_fault_in}
+use Rattle.k_laws.specs.BookAfter.{book_after, book_attached, book_frozen, book_operated}
+use Rattle.k_laws.specs.CellAfter.{at_cell, cell_after, cells_frozen, cells_operated, register_in}
+use Rattle.k_laws.specs.Touches.{other_cells_in}
+use Rattle.k_commit.specs.k_agree.Moves.{GivesBoth}
+use Rattle.k_commit.specs.k_agree.Shown.{two_parts}
 use Rattle.k_commit.proofs.Beside.{held_own, not_refused_beside, own_changed, own_counted, own_set, second_changed, second_counted, second_kept}
 
 module _ (trace : Trace) (b : BookPart) (v u : CellPart) (pid : Pid) (s : SharedId) where

@@ -17,12 +17,12 @@ use Rattle.k_types.specs.Owners.{phase_of}
 use Rattle.k_types.specs.Replies.{is_frozen}
 use Rattle.k_types.specs.State.{has_share}
 use Rattle.k_types.specs.Trace.{Trace, limit_of, segment_count}
-use Rattle.k_changes.specs.BookChanges.{owner_in, with_charge, with_pin_moved, with_share}
-use Rattle.k_frame.specs.PartUpdates.{held_in, with_done, with_register}
-use Rattle.k_squares.specs.Answers.{size_fault_in}
-use Rattle.k_squares.specs.BookAfter.{book_attached}
-use Rattle.k_commit.specs.k_moves.Moves.{GivesBoth}
-use Rattle.k_commit.specs.k_moves.Shown.{idle_part}
+use Rattle.k_laws.specs.BookChanges.{owner_in, with_charge, with_pin_moved, with_share}
+use Rattle.k_laws.specs.PartUpdates.{held_in, with_done, with_register}
+use Rattle.k_laws.specs.Answers.{size_fault_in}
+use Rattle.k_laws.specs.BookAfter.{book_attached}
+use Rattle.k_commit.specs.k_agree.Moves.{GivesBoth}
+use Rattle.k_commit.specs.k_agree.Shown.{idle_part}
 use Rattle.k_shares.specs.Sharers.{GainsShare}
 use Rattle.k_commit.specs.k_book.Books.{BookRecord}
 use Rattle.k_commit.specs.k_book.Calls.{ChangesShares}

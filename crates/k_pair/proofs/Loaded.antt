@@ -13,10 +13,10 @@ use Rattle.k_types.specs.Replies.{first_fault, is_ref, reference}
 use Rattle.k_types.specs.State.{Refers}
 use Rattle.k_types.specs.Steps.{state_after}
 use Rattle.k_types.specs.Trace.{Trace}
-use Rattle.k_changes.specs.BookChanges.{owner_in, with_pin_moved}
-use Rattle.k_frame.specs.PartUpdates.{held_in, with_done, with_register}
-use Rattle.k_commit.specs.k_moves.Moves.{GivesBoth}
-use Rattle.k_commit.specs.k_moves.Shown.{idle_part}
+use Rattle.k_laws.specs.BookChanges.{owner_in, with_pin_moved}
+use Rattle.k_laws.specs.PartUpdates.{held_in, with_done, with_register}
+use Rattle.k_commit.specs.k_agree.Moves.{GivesBoth}
+use Rattle.k_commit.specs.k_agree.Shown.{idle_part}
 use Rattle.k_commit.proofs.Beside.{load_refused_beside, loaded_beside}
 use Rattle.k_commit.specs.k_book.Books.{BookRecord}
 use Rattle.k_commit.specs.k_cell.Looks.{field_among, field_count_among}

@@ -21,16 +21,16 @@ use Rattle.k_types.specs.Totals.{total}
 use Rattle.k_types.specs.Trace.{Trace, kinds_of, size_of_type}
 use Rattle.k_types.specs.Types.{object_size}
 use Rattle.k_space.specs.Objects.{BodyValue, new_body}
-use Rattle.k_changes.specs.BookChanges.{bytes_in, owner_in, with_pin_moved}
-use Rattle.k_changes.specs.CellChanges.{next_name_in, with_created}
-use Rattle.k_base.proofs.Lists.{some_inside}
-use Rattle.k_frame.specs.PartUpdates.{held_in, with_done, with_register}
-use Rattle.k_squares.specs.Answers.{answer_in, faults_in, reply_in}
-use Rattle.k_squares.specs.BookAfter.{book_after, book_operated}
-use Rattle.k_squares.specs.CellAfter.{cell_after, cells_operated}
-use Rattle.k_squares.specs.Touches.{other_cells_in}
-use Rattle.k_commit.specs.k_moves.Moves.{GivesBoth}
-use Rattle.k_commit.specs.k_moves.Shown.{idle_part, two_parts}
+use Rattle.k_laws.specs.BookChanges.{bytes_in, owner_in, with_pin_moved}
+use Rattle.k_laws.specs.CellChanges.{next_name_in, with_created}
+use Rattle.k_types.proofs.Lists.{some_inside}
+use Rattle.k_laws.specs.PartUpdates.{held_in, with_done, with_register}
+use Rattle.k_laws.specs.Answers.{answer_in, faults_in, reply_in}
+use Rattle.k_laws.specs.BookAfter.{book_after, book_operated}
+use Rattle.k_laws.specs.CellAfter.{cell_after, cells_operated}
+use Rattle.k_laws.specs.Touches.{other_cells_in}
+use Rattle.k_commit.specs.k_agree.Moves.{GivesBoth}
+use Rattle.k_commit.specs.k_agree.Shown.{idle_part, two_parts}
 use Rattle.k_commit.proofs.Beside.{held_own, own_changed, refused_beside, second_changed}
 use Rattle.k_commit.proofs.Changed.{new_shown}
 use Rattle.k_commit.specs.k_book.Books.{BookRecord}

@@ -16,11 +16,11 @@ use Rattle.k_types.specs.Replies.{is_unmade}
 use Rattle.k_types.specs.State.{Sharing, has_share}
 use Rattle.k_types.specs.Trace.{Trace}
 use Rattle.k_laws.proofs.SoundEffects.{is_unmade_so}
-use Rattle.k_changes.specs.BookChanges.{with_phase as book_with_phase, with_share}
-use Rattle.k_changes.specs.CellChanges.{in_phase}
-use Rattle.k_frame.specs.PartUpdates.{with_done}
-use Rattle.k_commit.specs.k_moves.Moves.{GivesBoth}
-use Rattle.k_commit.specs.k_moves.Shown.{idle_part}
+use Rattle.k_laws.specs.BookChanges.{with_phase as book_with_phase, with_share}
+use Rattle.k_laws.specs.CellChanges.{in_phase}
+use Rattle.k_laws.specs.PartUpdates.{with_done}
+use Rattle.k_commit.specs.k_agree.Moves.{GivesBoth}
+use Rattle.k_commit.specs.k_agree.Shown.{idle_part}
 use Rattle.k_commit.proofs.Idle.{owners_by_absorbed}
 use Rattle.k_shares.specs.Sharers.{GainsShare, bytes_in_phase}
 use Rattle.k_commit.specs.k_book.Books.{BookRecord}

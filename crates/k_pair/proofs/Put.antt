@@ -9,8 +9,8 @@ use Rattle.k_types.specs.Agree.{book_shown_by}
 use Rattle.k_types.specs.Replies.{first_fault, is_ref, number_in}
 use Rattle.k_types.specs.State.{Holds}
 use Rattle.k_types.specs.Trace.{Trace}
-use Rattle.k_frame.specs.PartUpdates.{held_in}
-use Rattle.k_commit.specs.k_moves.Shown.{idle_part}
+use Rattle.k_laws.specs.PartUpdates.{held_in}
+use Rattle.k_commit.specs.k_agree.Shown.{idle_part}
 use Rattle.k_commit.proofs.Beside.{get_beside, get_refused_beside, put_beside, put_refused_beside}
 use Rattle.k_commit.specs.k_book.Books.{BookRecord}
 use Rattle.k_commit.specs.k_cell.Changes.{with_field}

@@ -13,12 +13,12 @@ use Rattle.k_types.specs.Cells.{BookPart, CellPart}
 use Rattle.k_types.specs.Replies.{first_fault}
 use Rattle.k_types.specs.State.{Refers}
 use Rattle.k_types.specs.Trace.{IsHeap, Trace, segment_count}
-use Rattle.k_changes.specs.BookChanges.{owner_in}
-use Rattle.k_frame.specs.PartUpdates.{held_in, with_done, with_written}
-use Rattle.k_squares.specs.BookAfter.{book_stored}
-use Rattle.k_squares.specs.CellAfter.{with_exit_for}
-use Rattle.k_commit.specs.k_moves.Moves.{GivesBoth}
-use Rattle.k_commit.specs.k_moves.Shown.{idle_part, part_alone}
+use Rattle.k_laws.specs.BookChanges.{owner_in}
+use Rattle.k_laws.specs.PartUpdates.{held_in, with_done, with_written}
+use Rattle.k_laws.specs.BookAfter.{book_stored}
+use Rattle.k_laws.specs.CellAfter.{with_exit_for}
+use Rattle.k_commit.specs.k_agree.Moves.{GivesBoth}
+use Rattle.k_commit.specs.k_agree.Shown.{idle_part, part_alone}
 use Rattle.k_commit.proofs.Beside.{store_refused_beside, stored_beside}
 use Rattle.k_commit.specs.k_book.Books.{BookRecord}
 use Rattle.k_commit.specs.k_cell.Changes.{with_field}

@@ -15,9 +15,9 @@ use Rattle.k_types.specs.Cells.{BookPart, Cell}
 use Rattle.k_types.specs.Names.{heap_eq}
 use Rattle.k_types.specs.Steps.{in_range}
 use Rattle.k_types.specs.Trace.{Trace}
-use Rattle.k_changes.specs.BookChanges.{owner_in}
-use Rattle.k_frame.specs.PartUpdates.{held_in}
-use Rattle.k_squares.specs.Touches.{access_cell_in, base_cell_in, ends_other_in, other_cells_in}
+use Rattle.k_laws.specs.BookChanges.{owner_in}
+use Rattle.k_laws.specs.PartUpdates.{held_in}
+use Rattle.k_laws.specs.Touches.{access_cell_in, base_cell_in, ends_other_in, other_cells_in}
 use Rattle.k_commit.specs.k_book.Books.{BookRecord}
 use Rattle.k_commit.specs.k_heap.Heaps.{HeapRecord}
 use Rattle.k_commit.proofs.Killing.{never_one}

@@ -6,8 +6,8 @@ use Rattle.k_types.specs.Agree.{book_shown_by}
 use Rattle.k_types.specs.State.{has_share}
 use Rattle.k_types.specs.Trace.{Trace}
 use Rattle.k_commit.specs.k_book.Books.{BookRecord}
-use Rattle.k_squares.specs.Answers.{size_fault_in}
-use Rattle.k_squares.specs.BookAfter.{book_attached}
+use Rattle.k_laws.specs.Answers.{size_fault_in}
+use Rattle.k_laws.specs.BookAfter.{book_attached}
 use Rattle.k_commit.specs.Charging.{CanCharge}
 
 -- the book stands, and the process and the shared heap are of the trace

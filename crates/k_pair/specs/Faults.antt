@@ -10,7 +10,7 @@ use Rattle.k_types.specs.Agree.{book_shown_by}
 use Rattle.k_types.specs.Replies.{fault_where, is_ref}
 use Rattle.k_commit.specs.k_book.Books.{BookRecord}
 use Rattle.k_commit.specs.k_cell.Looks.{field_among, field_count_among}
-use Rattle.k_squares.specs.Answers.{is_frozen_in, passes_barrier_in}
+use Rattle.k_laws.specs.Answers.{is_frozen_in, passes_barrier_in}
 use Rattle.k_commit.specs.Others.{OtherValue}
 use Rattle.k_pair.specs.Remembered.{TellsOwner}
 

@@ -7,12 +7,12 @@ use Rattle.k_types.specs.Cells.{Cell}
 use Rattle.k_types.specs.Steps.{in_range}
 use Rattle.k_types.specs.Trace.{Trace}
 use Rattle.k_agree.specs.Meeting.{Fits}
-use Rattle.k_squares.specs.Touches.{other_cells_in}
+use Rattle.k_laws.specs.Touches.{other_cells_in}
 use Rattle.k_commit.specs.k_book.Books.{BookRecord}
 use Rattle.k_commit.specs.k_cell.Holdings.{HoldingsValue}
 use Rattle.k_commit.specs.k_heap.Heaps.{HeapRecord}
 use Rattle.k_commit.specs.k_shared.SharedHeaps.{SharedRecord}
-use Rattle.k_commit.specs.k_moves.Shown.{idle_part}
+use Rattle.k_commit.specs.k_agree.Shown.{idle_part}
 use Rattle.k_commit.specs.Met.{BeforeWith, HaveMetWith}
 use Rattle.k_commit.specs.Others.{OtherValue, of_kernel, of_shared}
 use Rattle.k_commit.specs.Rooms.{CanOperateWith, HasRoomFor}

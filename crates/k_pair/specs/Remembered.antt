@@ -6,11 +6,11 @@ use Rattle.k_types.specs.declared.names.Name.{Name}
 use Rattle.k_types.specs.Agree.{book_shown_by}
 use Rattle.k_types.specs.Counted.{counted}
 use Rattle.k_commit.specs.k_book.Books.{BookRecord}
-use Rattle.k_changes.specs.BookChanges.{owner_in}
+use Rattle.k_laws.specs.BookChanges.{owner_in}
 use Rattle.k_entry.specs.Entries.{home_of}
-use Rattle.k_commit.specs.k_moves.Shown.{idle_part, part_alone}
-use Rattle.k_squares.specs.BookAfter.{book_stored}
-use Rattle.k_squares.specs.CellAfter.{with_exit_for}
+use Rattle.k_commit.specs.k_agree.Shown.{idle_part, part_alone}
+use Rattle.k_laws.specs.BookAfter.{book_stored}
+use Rattle.k_laws.specs.CellAfter.{with_exit_for}
 use Rattle.k_commit.specs.Met.{BeforeWith}
 use Rattle.k_commit.specs.Others.{OtherValue, with_value}
 use Rattle.k_commit.specs.Rooms.{HasExitRoom}

@@ -3,7 +3,7 @@ ghost use Rattle.std.specs.Prelude.{◌≡◌, ℕ, None, Some, IfErr, IfOk, IsT
 ghost use Rattle.k_commit.specs.k_cell.Looks.{field_among};
 ghost use Rattle.k_pair.specs.Faults.{CanJudge, HasPhase, store_faults_of};
 ghost use Rattle.k_pair.specs.Remembered.{TellsOwner, owners_of};
-ghost use Rattle.k_squares.specs.Answers.{is_frozen_in, passes_barrier_in};
+ghost use Rattle.k_laws.specs.Answers.{is_frozen_in, passes_barrier_in};
 ghost use Rattle.k_types.specs.Agree.{book_shown_by};
 ghost use Rattle.k_types.specs.Names.{kind_of, name_of};
 ghost use Rattle.k_types.specs.Replies.{first_fault, is_ref};

@@ -1,7 +1,7 @@
 //! Loads from objects of another heap.
 ghost use Rattle.std.specs.Prelude.{◌≡◌, ◌<◌, IsTrue, Some, is_some, option_map};
 ghost use Rattle.k_commit.specs.Beside.{HasSteppedWith};
-ghost use Rattle.k_frame.specs.PartUpdates.{held_in};
+ghost use Rattle.k_laws.specs.PartUpdates.{held_in};
 ghost use Rattle.k_pair.specs.Operating.{HaveMetFor};
 ghost use Rattle.k_types.specs.Names.{name_of};
 ghost use Rattle.k_types.specs.declared.op.Op.TheVariants.{Load};

@@ -5,8 +5,8 @@ use Rattle.k_types.specs.declared.event.Event.{Event}
 use Rattle.k_types.specs.declared.event.Reply.{Reply}
 use Rattle.k_types.specs.declared.op.Op.{Op}
 use Rattle.k_types.specs.declared.op.Op.TheVariants.{Kill}
-use Rattle.k_moves.specs.Shown.{idle_part}
-use Rattle.k_squares.specs.Locals.{is_local_in}
+use Rattle.k_agree.specs.Shown.{idle_part}
+use Rattle.k_laws.specs.Locals.{is_local_in}
 use Rattle.k_ends.specs.Apart.{CanNotDoAlone, CanNotDoWithKernel, CanNotDoWithShared, HasComeAlone, HasComeWithKernel, HasComeWithShared}
 use Rattle.k_ends.specs.CallsRefusals.{CanNotDoInside, CanNotPublish}
 use Rattle.k_ends.specs.Came.{Came}

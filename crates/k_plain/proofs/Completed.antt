@@ -9,7 +9,7 @@ use Rattle.k_types.specs.State.{State}
 use Rattle.k_types.specs.Steps.{done_by, no_orphan, state_after}
 use Rattle.k_types.specs.Trace.{Trace, process_count}
 use Rattle.k_scan.specs.k_state.Machines.{Machine}
-use Rattle.k_setup.specs.Setups.{setup_of}
+use Rattle.k_laws.specs.Setups.{setup_of}
 
 -- each process has done its operations in order, and all of them while it lives
 abbrev pub HaveDone : Machine → List (List Op) → List Event → Type 0

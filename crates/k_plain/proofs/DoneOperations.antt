@@ -6,7 +6,7 @@ use Rattle.k_types.specs.declared.event.Event.{Event}
 use Rattle.k_types.specs.declared.op.Op.{Op}
 use Rattle.k_types.specs.Complete.{IsPrefixOf}
 use Rattle.k_types.specs.Steps.{done_by}
-use Rattle.k_frame.proofs.Histories.{done_append}
+use Rattle.k_laws.proofs.Histories.{done_append}
 
 -- one operation more
 pub take_one : (ops : List Op) (n : ℕ) (op : Op) → slice_get ops n ≡ Some op → take n ops ++ op ∷ [] ≡ take (n + 1) ops

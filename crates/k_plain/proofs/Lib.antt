@@ -5,4 +5,4 @@ pub mod Quiets
 pub mod Completed
 pub mod Owned
 pub mod Replied
-pub use Rattle.k_order.proofs.FileOrders
+pub use Rattle.k_laws.proofs.FileOrders

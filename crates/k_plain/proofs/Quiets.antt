@@ -7,7 +7,7 @@ use Rattle.k_types.specs.Owners.{user}
 use Rattle.k_types.specs.Sound.{IsSound}
 use Rattle.k_types.specs.State.{State, is_scanned}
 use Rattle.k_types.specs.Trace.{IsHeap, Trace, process_count}
-use Rattle.k_order.proofs.NothingWaits.{no_scans_open}
+use Rattle.k_laws.proofs.NothingWaits.{no_scans_open}
 
 -- no process's heap and not the kernel is scanned
 pub quiet_all : (trace : Trace) (st : State) → IsSound trace st → ((p : ℕ) → p < process_count trace → is_scanned st.scans (user p) ≡ false) → is_scanned st.scans Kernel ≡ false →

@@ -10,7 +10,7 @@ use Rattle.k_types.specs.Effects.{effect, effect_unless}
 use Rattle.k_types.specs.Replies.{answer, faults, first_fault, refused_or, reply_to}
 use Rattle.k_types.specs.State.{State}
 use Rattle.k_types.specs.Trace.{Trace}
-use Rattle.k_frame.proofs.Answers.{no_refusal}
+use Rattle.k_laws.proofs.Answers.{no_refusal}
 
 -- what is refused has no effect
 pub refused_keeps : (trace : Trace) (st : State) (p : ℕ) (op : Op) (fault : Fault) → Refused fault ≡ reply_to trace st p op →

@@ -1,7 +1,7 @@
 //! Whether a history is complete.
 ghost use Rattle.std.specs.Prelude.{ℕ, ◌<◌, slice_index_or, ◌≡◌, ◌≤◌, ◌↔◌, ◌∷◌, ◌++◌, [], List, IfNone, IfSome, IsFalse, IsTrue, Some, length, map, option_copied, slice_get, take};
 ghost use Rattle.k_plain.specs.Histories.{one_operation};
-ghost use Rattle.k_setup.specs.Setups.{setup_of};
+ghost use Rattle.k_laws.specs.Setups.{setup_of};
 ghost use Rattle.k_types.specs.Complete.{EndsWithClosing, IsComplete, IsPrefixOf, all_ended};
 ghost use Rattle.k_types.specs.Names.{among};
 ghost use Rattle.k_types.specs.Sound.{IsSound};

@@ -3,7 +3,7 @@ ghost use Rattle.std.specs.Prelude.{◌≡◌, ◌<◌, ◌↔◌, [], IfOk, IsF
 ghost use Rattle.k_plain.specs.Owned.{objects_owned, references_in};
 ghost use Rattle.k_plain.specs.Sounds.{IsSoundMachine};
 ghost use Rattle.k_scan.specs.k_state.Machines.{Machine};
-ghost use Rattle.k_setup.specs.Setups.{AreSetupRules};
+ghost use Rattle.k_laws.specs.Setups.{AreSetupRules};
 ghost use Rattle.k_scan.specs.k_state.Rooms.{HasRoom};
 ghost use Rattle.k_types.specs.Effects.{step};
 ghost use Rattle.k_types.specs.FileOrder.{end_of};

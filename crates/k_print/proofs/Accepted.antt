@@ -4,7 +4,7 @@ use Rattle.k_types.specs.State.{State}
 use Rattle.k_types.specs.Steps.{done_by, state_after}
 use Rattle.k_types.specs.Numbers.{numbers_below}
 use Rattle.k_types.specs.Trace.{process_count}
-use Rattle.k_bounds.proofs.Laws.{histories_are_short}
+use Rattle.k_laws.proofs.BoundsLaws.{histories_are_short}
 use Rattle.k_trace.specs.Rules.{IsTrace}
 use Rattle.k_text.specs.Named.{AreNamed}
 use Rattle.k_text.specs.Report.{report_text, text_over}

@@ -19,8 +19,8 @@ use Rattle.k_types.specs.Steps.{IsRun, done_by, in_range}
 use Rattle.k_types.specs.Trace.{Trace, process_count}
 use Rattle.k_types.specs.TraceRules.{EndsWithExit, is_exit, is_of_version, is_spelled}
 use Rattle.k_types.specs.Updates.{clear_registers, count_done, end_process, keep_shares, turn_exits}
-use Rattle.k_bounds.specs.Counts.{operation_count}
-use Rattle.k_kept.proofs.Owning.{step_ended}
+use Rattle.k_laws.specs.Counts.{operation_count}
+use Rattle.k_laws.proofs.Owning.{step_ended}
 use Rattle.k_solo.proofs.Unread.{possible_read, step_unread}
 use Rattle.k_state.specs.Setups.{setup_of}
 use Rattle.k_spell.specs.Spelled.{is_spelled_event}

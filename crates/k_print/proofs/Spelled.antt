@@ -14,7 +14,7 @@ use Rattle.k_types.specs.Numbers.{numbers_below}
 use Rattle.k_types.specs.State.{opening}
 use Rattle.k_types.specs.Steps.{IsLegalHistory, done_by}
 use Rattle.k_types.specs.Trace.{Trace, operations_of, process_count}
-use Rattle.k_base.proofs.Lists.{numbers_length}
+use Rattle.k_types.proofs.Lists.{numbers_length}
 use Rattle.k_words.specs.Words.{Text, text_of}
 use Rattle.k_report.proofs.LineLemmas.{text_of-append}
 use Rattle.k_trace.specs.Named.{DeclaredNames}

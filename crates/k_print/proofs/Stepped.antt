@@ -9,7 +9,7 @@ use Rattle.k_types.specs.Effects.{step}
 use Rattle.k_types.specs.State.{State, opening}
 use Rattle.k_types.specs.Steps.{IsLegalHistory, IsPossible, IsRun, state_after}
 use Rattle.k_types.specs.Trace.{Trace}
-use Rattle.k_frame.proofs.Histories.{legal_front, legal_rest, state_next}
+use Rattle.k_laws.proofs.Histories.{legal_front, legal_rest, state_next}
 use Rattle.k_solo.proofs.Rooms.{history_room}
 use Rattle.k_solo.proofs.Unread.{possible_unread, step_unread}
 use Rattle.k_state.specs.Machines.{Machine}

@@ -12,7 +12,7 @@ use Rattle.k_types.specs.State.{State, opening}
 use Rattle.k_types.specs.Steps.{IsLegalHistory, done_by, in_range, state_after}
 use Rattle.k_types.specs.Trace.{Trace, operations_of, process_count}
 use Rattle.k_types.specs.TraceRules.{AreOperations, EndsWithExit, KeepsRules, is_of_version, is_spelled}
-use Rattle.k_base.proofs.Lists.{at_number, numbers_length}
+use Rattle.k_types.proofs.Lists.{at_number, numbers_length}
 use Rattle.k_solo.proofs.Unread.{legal_unread, run_unread}
 use Rattle.k_spell.specs.Spelled.{is_spelled_event}
 use Rattle.k_print.specs.Done.{order_of, trace_done}

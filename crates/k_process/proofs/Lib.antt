@@ -1,11 +1,12 @@
-pub mod Written
+pub mod Lists
+pub mod RoomLeft
+pub mod LocalKept
+pub mod CanDo
 pub mod Kept
+pub mod Steps
+pub mod Opened
+pub mod Written
+pub mod MeetingKeeps
 pub mod Looped
 pub mod Over
-pub use Rattle.k_locked.proofs.Lists
-pub use Rattle.k_locked.proofs.CanDo
-pub use Rattle.k_locked.proofs.Kept as LockedKept
-pub use Rattle.k_locked.proofs.Steps
-pub use Rattle.k_locked.proofs.RoomLeft
-pub use Rattle.k_locked.proofs.Opened
-pub use Rattle.k_locked.proofs.Telling
+pub use Rattle.k_commit.proofs.Telling

@@ -8,19 +8,19 @@ use Rattle.k_types.specs.Cells.{Cell, ProcessPart}
 use Rattle.k_types.specs.State.{State}
 use Rattle.k_types.specs.Steps.{state_after}
 use Rattle.k_types.specs.Trace.{IsHeap, Trace, operations_of, process_count}
-use Rattle.k_frame.specs.PartUpdates.{done_in}
+use Rattle.k_laws.specs.PartUpdates.{done_in}
 use Rattle.k_tie.specs.Values.{NoteValue}
 use Rattle.k_agree.specs.Agreement.{Agrees, Shows}
 use Rattle.k_agree.specs.Settled.{IsOver, IsSettled, IsThrough}
 use Rattle.k_agree.proofs.AtTheEnd.{book_sound, is_complete}
-use Rattle.k_locked.specs.k_heap.Heaps.{has_ended_in}
-use Rattle.k_locked.specs.SharedHeaps.{SharedRecord}
-use Rattle.k_locked.proofs.CanDo.{done_at_most}
+use Rattle.k_commit.specs.k_heap.Heaps.{has_ended_in}
+use Rattle.k_commit.specs.SharedHeaps.{SharedRecord}
+use Rattle.k_process.proofs.CanDo.{done_at_most}
 use Rattle.k_process.specs.declared.process.Process.{Process}
 use Rattle.k_process.specs.Heaps.{HeapsValue}
 use Rattle.k_process.specs.Over.{AllMet, IsOutcome, cells_of}
 use Rattle.k_process.specs.Worlds.{WorldValue}
-use Rattle.k_base.proofs.Lists.{get_there}
+use Rattle.k_types.proofs.Lists.{get_there}
 
 -- and so has the list of what is made of each
 pub get_mapped : {A B : Type 0} (f : A → B) (xs : List A) (k : ℕ) (x : A) → slice_get xs k ≡ Some x → slice_get (map f xs) k ≡ Some (f x)

@@ -1,8 +1,8 @@
 -- All heaps of a run and its book, seen as one value.
 use Rattle.std.specs.Prelude.{List}
-use Rattle.k_locked.specs.k_book.Books.{BookRecord}
-use Rattle.k_locked.specs.k_heap.Holdings.{HoldingsValue}
-use Rattle.k_locked.specs.SharedHeaps.{SharedRecord}
+use Rattle.k_commit.specs.k_book.Books.{BookRecord}
+use Rattle.k_commit.specs.k_heap.Holdings.{HoldingsValue}
+use Rattle.k_commit.specs.SharedHeaps.{SharedRecord}
 use Rattle.k_process.specs.declared.heaps.Heaps.{Heaps}
 use Rattle.k_process.specs.declared.process.Process.{Process}
 

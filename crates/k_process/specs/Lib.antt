@@ -1,17 +1,18 @@
+pub mod Rooms
+pub mod Keeping
 pub mod Worlds
 pub mod Heaps
-pub mod Standing
+pub mod BetweenSteps
 pub mod Over
-pub use Rattle.k_locked.specs.Keeping
-pub use Rattle.k_locked.specs.Rooms
-pub use Rattle.k_locked.specs.Standing as CommitStanding
-pub use Rattle.k_locked.specs.Stepped
-pub use Rattle.k_locked.specs.Beside
-pub use Rattle.k_locked.specs.Others
-pub use Rattle.k_locked.specs.Published
-pub use Rattle.k_locked.specs.k_shared.SharedHeaps
-pub use Rattle.k_locked.specs.k_book
-pub use Rattle.k_locked.specs.k_cell
-pub use Rattle.k_locked.specs.k_commit
-pub use Rattle.k_locked.specs.k_heap
-pub use Rattle.k_locked.specs.k_local
+pub use Rattle.k_commit.specs.k_book
+pub use Rattle.k_commit.specs.k_cell
+pub use Rattle.k_commit.specs.k_heap
+pub use Rattle.k_commit.specs.k_shared
+pub use Rattle.k_local.specs as k_local
+pub use Rattle.k_commit.specs.Beside
+pub use Rattle.k_commit.specs.Others
+pub use Rattle.k_commit.specs.Stepped
+pub use Rattle.k_commit.specs.Published
+pub use Rattle.k_commit.specs.Standing
+pub use Rattle.k_commit.specs.SharedHeaps
+pub use Rattle.k_commit.specs as k_commit

@@ -8,15 +8,15 @@ use Rattle.k_types.specs.Trace.{Trace, process_count}
 use Rattle.k_agree.specs.Agreement.{BookShows, Shows}
 use Rattle.k_agree.specs.Rooms.{AreFirst, event_room}
 use Rattle.k_agree.specs.Settled.{all_ended_in, no_orphan_in}
-use Rattle.k_locked.specs.k_book.Books.{BookRecord}
-use Rattle.k_locked.specs.k_heap.Holdings.{HoldingsValue}
-use Rattle.k_locked.specs.Standing.{BookStands}
-use Rattle.k_locked.specs.k_heap.Heaps.{HeapRecord}
-use Rattle.k_locked.specs.SharedHeaps.{SharedRecord}
-use Rattle.k_locked.specs.Keeping.{KernelKeeps}
+use Rattle.k_commit.specs.k_book.Books.{BookRecord}
+use Rattle.k_commit.specs.k_heap.Holdings.{HoldingsValue}
+use Rattle.k_commit.specs.Standing.{BookStands}
+use Rattle.k_commit.specs.k_heap.Heaps.{HeapRecord}
+use Rattle.k_commit.specs.SharedHeaps.{SharedRecord}
+use Rattle.k_process.specs.Keeping.{KernelKeeps}
 use Rattle.k_process.specs.declared.process.Process.{Process}
 use Rattle.k_process.specs.Heaps.{HeapsValue}
-use Rattle.k_process.specs.Standing.{HeapsStand, IsThroughWith, ProcessesStand}
+use Rattle.k_process.specs.BetweenSteps.{HeapsStand, IsThroughWith, ProcessesStand}
 use Rattle.k_process.specs.Worlds.{WorldValue}
 
 -- the book stands and is of the table, its journal has of each process the first operations of the trace, and all events of a run of it

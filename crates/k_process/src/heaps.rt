@@ -1,6 +1,6 @@
 //! All heaps of a run, as one value.
 use crate::process::Process;
-use k_locked::{Book, KernelCell, SharedCell};
+use crate::{Book, KernelCell, SharedCell};
 
 /// All heaps of a run in the order in which their locks are taken, and the book, whose lock is the last.
 #[derive(Drop)]

@@ -1,9 +1,8 @@
 //! A process with its heap's cell.
-ghost use Rattle.k_process.specs.Standing.{IsNextOf};
-ghost use Rattle.k_process.specs.Standing.{ProcessStands};
+ghost use Rattle.k_process.specs.BetweenSteps.{IsNextOf, ProcessStands};
 ghost use Rattle.k_process.specs.Worlds.{WorldValue};
 
-use k_locked::HeapCell;
+use crate::HeapCell;
 use k_types::Op;
 
 /// A process: its heap's cell, and all operations that the trace has for it.

@@ -11,7 +11,7 @@ use Rattle.k_io.specs.Writing.{Writes}
 use Rattle.k_io.proofs.Takings.{takes_nothing, takes_then, takes_front_then, takes_front_longer}
 use Rattle.k_io.proofs.Writings.{rose_since, writes_same, writes_then}
 use Rattle.k_types.specs.Numbers.{numbers_below}
-use Rattle.k_base.proofs.Lists.{numbers_push}
+use Rattle.k_types.proofs.Lists.{numbers_push}
 use Rattle.k_words.specs.Words.{Text, line_text, text_of}
 use Rattle.k_words.specs.Spaced.{spaced}
 use Rattle.k_text.specs.Writing.{HasWritten}

@@ -4,9 +4,9 @@ use Rattle.k_types.specs.declared.names.Name.{Name}
 use Rattle.k_types.specs.Names.{name_lt}
 use Rattle.k_types.specs.State.{Object, object_at, has}
 use Rattle.k_types.specs.Sound.{IsOrdered, IsOrderedFrom}
-use Rattle.k_base.proofs.NameTests.{name_lt_asym, name_lt_trans, name_eq_refl, name_lt_apart}
-use Rattle.k_base.proofs.Objects.{has_found}
-use Rattle.k_base.proofs.Ordered.{ordered_tail}
+use Rattle.k_types.proofs.NameTests.{name_lt_asym, name_lt_trans, name_eq_refl, name_lt_apart}
+use Rattle.k_types.proofs.Objects.{has_found}
+use Rattle.k_types.proofs.Ordered.{ordered_tail}
 use Rattle.k_text.proofs.NameOrder.{lt_irrefl}
 use Rattle.k_text.specs.Shown.{comes_after, next_name_after, shown_object}
 

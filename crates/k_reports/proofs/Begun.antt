@@ -4,7 +4,7 @@ use Rattle.k_types.specs.declared.event.Event.{Event}
 use Rattle.k_types.specs.Trace.{Trace}
 use Rattle.k_types.specs.State.{opening}
 use Rattle.k_types.specs.Steps.{done_by}
-use Rattle.k_frame.proofs.Histories.{legal_front, done_append}
+use Rattle.k_laws.proofs.Histories.{legal_front, done_append}
 use Rattle.k_reports.specs.Begun.{IsBegun}
 
 -- The first events of a history that is begun are begun.

@@ -16,9 +16,9 @@ use Rattle.k_types.specs.Trace.{Trace}
 use Rattle.k_types.specs.State.{State, has, register}
 use Rattle.k_types.specs.Replies.{answer, faults, field_at, first_fault, number_from, reference, reference_from, refused_or, reply_to, root_of}
 use Rattle.k_types.specs.Sound.{IsSound}
-use Rattle.k_known.specs.Fits.{NumbersFit}
+use Rattle.k_laws.specs.Fits.{NumbersFit}
 use Rattle.k_reports.specs.Spelled.{makes, IsReplyInRange}
-use Rattle.k_known.proofs.Replied.{field_refers}
+use Rattle.k_laws.proofs.Replied.{field_refers}
 
 -- A list of numbers that are each at most the bound has at most so many times the bound in all.
 pub total_bounded : (bound : ℕ) (ns : List ℕ) → ((i : ℕ) → get_or ns i 0 ≤ bound) → total (λ n. n) ns ≤ length ns * bound

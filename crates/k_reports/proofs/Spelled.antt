@@ -8,12 +8,12 @@ use Rattle.k_types.specs.TraceRules.{KeepsRules}
 use Rattle.k_types.specs.State.{opening}
 use Rattle.k_types.specs.Sound.{IsSound}
 use Rattle.k_types.specs.Steps.{state_after}
-use Rattle.k_bounds.specs.Counts.{has_stored, is_operation, is_store, one_if, operation_count, store_count}
-use Rattle.k_bounds.proofs.Counting.{one_if_low}
-use Rattle.k_frame.proofs.Histories.{legal_rest}
+use Rattle.k_laws.specs.Counts.{has_stored, is_operation, is_store, one_if, operation_count, store_count}
+use Rattle.k_laws.proofs.Counting.{one_if_low}
+use Rattle.k_laws.proofs.Histories.{legal_rest}
 use Rattle.k_laws.proofs.SoundSteps.{legal_sound}
-use Rattle.k_known.specs.Fits.{AreKnownEvents, HasFewFields, NumbersFit, IsSpelledEvent as HasSpelledNumbers}
-use Rattle.k_known.proofs.Laws.{ended_collections_are_bounded, events_are_known, numbers_fit}
+use Rattle.k_laws.specs.Fits.{AreKnownEvents, HasFewFields, NumbersFit, IsSpelledEvent as HasSpelledNumbers}
+use Rattle.k_laws.proofs.KnownLaws.{ended_collections_are_bounded, events_are_known, numbers_fit}
 use Rattle.k_trace.specs.Named.{NamedTrace}
 use Rattle.k_trace.specs.Rules.{IsTrace}
 use Rattle.k_reports.specs.Begun.{AreAllSpelled, IsBegun}

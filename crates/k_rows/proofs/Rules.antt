@@ -19,11 +19,11 @@ use Rattle.k_types.specs.Steps.{in_range, done_by, state_after, no_orphan}
 use Rattle.k_types.specs.Trace.{operations_of, row_of, Trace}
 use Rattle.k_types.specs.TraceRules.{KeepsRules, AreLimits, AreOperations, EndsWithExit, is_exit, is_spelled, is_of_version}
 use Rattle.k_types.specs.Complete.{IsComplete, EndsWithClosing, all_ended, IsPrefixOf}
-use Rattle.k_base.proofs.Numbered.{all_at_below, occurrences, occurrences_count}
+use Rattle.k_types.proofs.Numbered.{all_at_below, occurrences, occurrences_count}
 use Rattle.k_rows.specs.Words.{Header, trace_doing, doers, Undone, undone_by, trace_asking}
 use Rattle.k_types.specs.Names.{among}
 use Rattle.std.proofs.lemmas.List.{length-append}
-use Rattle.k_base.proofs.Lists.{mapped_length}
+use Rattle.k_types.proofs.Lists.{mapped_length}
 
 -- the parent stands before its child
 abbrev parent_before : Option LimitId → ℕ → Bool

@@ -2,8 +2,8 @@
 use Rattle.std.proofs.Common.{◌≡◌, ℕ, sym, ap, subst, List, []}
 use Rattle.k_types.specs.declared.setup.Setup.{Setup}
 use Rattle.k_types.specs.Trace.{Trace, trace_of}
-use Rattle.k_order.proofs.Laws.{ended_histories_leave_what_the_directory_reaches}
-use Rattle.k_setup.specs.Setups.{setup_of}
+use Rattle.k_laws.proofs.OrderLaws.{ended_histories_leave_what_the_directory_reaches}
+use Rattle.k_laws.specs.Setups.{setup_of}
 use Rattle.k_trace.specs.Named.{DeclaredNames, NamedTrace}
 use Rattle.k_opening.specs.k_outcome.k_process.Over.{OutcomeValue}
 use Rattle.k_opening.specs.k_outcome.Ends.{EndsRun}

@@ -2,5 +2,8 @@ pub mod Ended
 pub mod Told
 pub mod Replayed
 pub mod Pens
-pub use Rattle.k_opening.proofs.SampleLists
+pub mod Reports
+pub mod Runs
+pub mod Orders
 pub use Rattle.k_opening.proofs.Setups
+pub use Rattle.k_opening.proofs.SampleLists

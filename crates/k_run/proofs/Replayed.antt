@@ -5,7 +5,7 @@ use Rattle.k_trace.specs.Named.{NamedTrace}
 use Rattle.k_opening.specs.k_outcome.k_process.Heaps.{HeapsValue, value_of}
 use Rattle.k_opening.specs.k_outcome.k_process.Over.{cells_of}
 use Rattle.k_complete.specs.Replaying.{CanReplay, HasReplayed}
-use Rattle.k_setup.specs.Setups.{setup_of}
+use Rattle.k_laws.specs.Setups.{setup_of}
 use Rattle.k_opening.specs.k_outcome.Ends.{EndsRun}
 use Rattle.k_opening.proofs.OverByMeeting.{met_ends}
 use Rattle.k_opening.specs.k_still.declared.first.FirstCells.{FirstCells}

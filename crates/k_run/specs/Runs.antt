@@ -3,8 +3,8 @@ use Rattle.std.specs.Prelude.{◌≡◌, IsTrue}
 use Rattle.k_types.specs.Complete.{IsComplete, all_ended}
 use Rattle.k_types.specs.Sound.{IsSound}
 use Rattle.k_types.specs.Steps.{IsLegalHistory, state_after}
-use Rattle.k_order.specs.Reclaimed.{IsReclaimed}
-use Rattle.k_setup.specs.Setups.{setup_of}
+use Rattle.k_laws.specs.Reclaimed.{IsReclaimed}
+use Rattle.k_laws.specs.Setups.{setup_of}
 use Rattle.k_trace.specs.Named.{NamedTrace}
 use Rattle.k_opening.specs.k_outcome.Ends.{EndValue, journal_of}
 

@@ -4,7 +4,7 @@ ghost use Rattle.k_opening.specs.k_outcome.Ends.{journal_of};
 ghost use Rattle.k_opening.specs.k_outcome.Listed.{AreRoomsFor};
 ghost use Rattle.k_run.specs.Runs.{IsRunOf};
 ghost use Rattle.k_opening.specs.k_outcome.k_process.Heaps.{value_of};
-ghost use Rattle.k_opening.specs.k_outcome.k_process.Standing.{AllStand};
+ghost use Rattle.k_opening.specs.k_outcome.k_process.BetweenSteps.{AllStand};
 ghost use Rattle.k_opening.specs.k_still.Opening.{IsSetupOf};
 ghost use Rattle.k_trace.specs.Meaning.{meaning_of};
 ghost use Rattle.k_trace.specs.Rules.{IsTrace};

@@ -5,7 +5,7 @@ ghost use Rattle.k_opening.specs.k_outcome.k_process.Over.{IsOutcome, cells_of};
 ghost use Rattle.k_opening.specs.k_outcome.Ends.{EndsRun, journal_of};
 ghost use Rattle.k_opening.specs.k_locks.Rooms.{AreEndRooms};
 ghost use Rattle.k_run.specs.Runs.{IsRunOf};
-ghost use Rattle.k_setup.specs.Setups.{setup_of};
+ghost use Rattle.k_laws.specs.Setups.{setup_of};
 ghost use Rattle.k_types.specs.Trace.{process_count};
 ghost use Rattle.k_opening.specs.k_locks.k_watch.Shown.{HasWatched, WasShown};
 

@@ -3,7 +3,7 @@ ghost use Rattle.std.specs.Prelude.{IfOk, None, ◌≡◌};
 ghost use Rattle.k_run.specs.k_outcome.Listed.{AreRoomsFor};
 ghost use Rattle.k_run.specs.Runs.{IsRunOf};
 ghost use Rattle.k_run.specs.k_outcome.k_process.Heaps.{value_of};
-ghost use Rattle.k_run.specs.k_outcome.k_process.Standing.{AllStand};
+ghost use Rattle.k_run.specs.k_outcome.k_process.BetweenSteps.{AllStand};
 ghost use Rattle.k_run.specs.Opening.{IsSetupOf};
 ghost use Rattle.k_text.specs.Named.{AreNamed};
 ghost use Rattle.k_trace.specs.Meaning.{meaning_of};

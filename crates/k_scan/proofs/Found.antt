@@ -13,9 +13,9 @@ use Rattle.k_types.specs.Reach.{has_entry, is_entered, is_held, is_pinned, is_ro
 use Rattle.k_types.specs.Sound.{IsOrdered}
 use Rattle.k_types.specs.State.{ExitItem, Object, State, has, in_registers, refers}
 use Rattle.k_types.specs.Trace.{Trace, process_count}
-use Rattle.k_base.proofs.Lists.{numbers_push}
-use Rattle.k_base.proofs.NameTests.{heap_eq-true}
-use Rattle.k_base.proofs.Objects.{has-kept}
+use Rattle.k_types.proofs.Lists.{numbers_push}
+use Rattle.k_types.proofs.NameTests.{heap_eq-true}
+use Rattle.k_types.proofs.Objects.{has-kept}
 use Rattle.k_scan.specs.Marks.{AreMarks, HasFound, IsMarked, is_marked, lengths, sizes_of}
 use Rattle.k_scan.proofs.Looks.{or_more, ours_named, visit_other}
 use Rattle.k_scan.proofs.Marks.{lists_are}

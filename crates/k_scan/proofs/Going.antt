@@ -10,8 +10,8 @@ use Rattle.k_types.specs.Sound.{IsOrdered}
 use Rattle.k_types.specs.State.{Object, State}
 use Rattle.k_types.specs.Totals.{total}
 use Rattle.k_types.specs.Trace.{Trace, segment_count}
-use Rattle.k_base.proofs.Lists.{length-kept}
-use Rattle.k_base.proofs.Sums.{total_append}
+use Rattle.k_types.proofs.Lists.{length-kept}
+use Rattle.k_types.proofs.Sums.{total_append}
 use Rattle.k_state.specs.Machines.{IsDeclared}
 use Rattle.k_state.specs.Marks.{marked}
 use Rattle.k_state.specs.Segments.{objects_below, objects_in}

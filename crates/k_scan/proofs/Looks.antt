@@ -9,10 +9,10 @@ use Rattle.k_types.specs.declared.names.Heap.{Heap}
 use Rattle.k_types.specs.Names.{name_eq, heap_eq, name_among}
 use Rattle.k_types.specs.Owners.{objects_of}
 use Rattle.k_types.specs.State.{Object, has}
-use Rattle.k_base.proofs.NameTests.{name_eq-false, name_eq-true}
-use Rattle.k_base.proofs.Objects.{has-kept}
+use Rattle.k_types.proofs.NameTests.{name_eq-false, name_eq-true}
+use Rattle.k_types.proofs.Objects.{has-kept}
 use Rattle.k_state.specs.Places.{IsNamedAt}
-use Rattle.k_base.proofs.Sums.{total_set}
+use Rattle.k_types.proofs.Sums.{total_set}
 use Rattle.k_state.specs.Segments.{objects_in}
 use Rattle.k_state.proofs.Split.{has_in}
 use Rattle.k_scan.specs.Marks.{HasLooked, IsMarked, is_marked, is_marked_in, unmarked}

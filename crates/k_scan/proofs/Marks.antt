@@ -7,15 +7,15 @@ use Rattle.k_types.specs.declared.names.Name.{Name}
 use Rattle.k_types.specs.Names.{name_eq, name_lt}
 use Rattle.k_types.specs.State.{Object, State, has}
 use Rattle.k_types.specs.Sound.{IsOrdered, IsOrderedFrom}
-use Rattle.k_base.proofs.NameTests.{name_eq-true, name_eq_refl, name_lt_irrefl}
+use Rattle.k_types.proofs.NameTests.{name_eq-true, name_eq_refl, name_lt_irrefl}
 use Rattle.k_types.specs.Numbers.{numbers_below}
 use Rattle.k_types.specs.Trace.{Trace, segment_count}
 use Rattle.k_types.specs.declared.names.Heap.{Heap}
-use Rattle.k_base.proofs.Lists.{at_number, numbers_push}
+use Rattle.k_types.proofs.Lists.{at_number, numbers_push}
 use Rattle.k_state.specs.Segments.{objects_in}
 use Rattle.k_state.proofs.Split.{has_in, in_parts, ordered_in}
 use Rattle.k_scan.specs.Marks.{AreMarks, covers, is_marked, is_marked_in, lengths, sizes_of}
-use Rattle.k_base.proofs.Ordered.{ordered_tail, ordered_later}
+use Rattle.k_types.proofs.Ordered.{ordered_tail, ordered_later}
 
 set_first : (a b m : Bool) → ((a && true) || m) ≡ (((a && b) || m) || a)
 set_first true b m = grind arith

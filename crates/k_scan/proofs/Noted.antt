@@ -7,7 +7,7 @@ use Rattle.k_types.specs.declared.names.Heap.{Heap}
 use Rattle.k_types.specs.declared.names.Name.{Name}
 use Rattle.k_types.specs.Names.{heap_eq, name_eq}
 use Rattle.k_types.specs.State.{ExitItem, has_exit}
-use Rattle.k_base.proofs.NameTests.{name_eq-same, name_eq-true, name_eq_refl}
+use Rattle.k_types.proofs.NameTests.{name_eq-same, name_eq-true, name_eq_refl}
 use Rattle.k_state.specs.Links.{IsExitAt}
 use Rattle.k_state.proofs.Linked.{exit_there, is_exit}
 use Rattle.k_scan.specs.Notes.{AreNoted, HasNoted}

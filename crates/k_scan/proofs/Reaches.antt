@@ -12,14 +12,14 @@ use Rattle.k_types.specs.Reach.{reach_in}
 use Rattle.k_types.specs.Sound.{IsOrdered}
 use Rattle.k_types.specs.State.{Object, State, has, object_at, refers, refers_in}
 use Rattle.k_types.specs.Trace.{Trace}
-use Rattle.k_base.proofs.NameTests.{name_eq-true, name_eq_refl}
-use Rattle.k_base.proofs.Objects.{has-kept, is_some-object_at, referrer, refers_found, refers_in-kept, refers_in_has}
-use Rattle.k_base.proofs.Tests.{same_test}
+use Rattle.k_types.proofs.NameTests.{name_eq-true, name_eq_refl}
+use Rattle.k_types.proofs.Objects.{has-kept, is_some-object_at, referrer, refers_found, refers_in-kept, refers_in_has}
+use Rattle.k_types.proofs.Tests.{same_test}
 use Rattle.k_laws.proofs.Closure.{set, in_set, set_has, set_refers, closed_refers, start_in}
 use Rattle.k_scan.specs.Marks.{AreMarks, HasLooked, is_marked, lengths, sizes_of}
 use Rattle.k_scan.proofs.Marks.{lists_are, marks_has}
 use Rattle.k_scan.proofs.References.{refers_only}
-use Rattle.k_base.proofs.Lists.{length-kept}
+use Rattle.k_types.proofs.Lists.{length-kept}
 
 -- the objects of the heap
 abbrev pub pool_of : Trace → State → Heap → List Object

@@ -6,10 +6,10 @@ use Rattle.k_types.specs.declared.names.Name.{Name}
 use Rattle.k_types.specs.Names.{name_eq, name_lt}
 use Rattle.k_types.specs.State.{Object, object_at, refers, refers_in}
 use Rattle.k_types.specs.Sound.{IsOrdered}
-use Rattle.k_base.proofs.NameTests.{name_eq-true, name_lt_irrefl}
-use Rattle.k_base.proofs.Objects.{refers_in_has}
+use Rattle.k_types.proofs.NameTests.{name_eq-true, name_lt_irrefl}
+use Rattle.k_types.proofs.Objects.{refers_in_has}
 use Rattle.k_state.proofs.Placed.{found_at}
-use Rattle.k_base.proofs.Ordered.{ordered_tail, ordered_later}
+use Rattle.k_types.proofs.Ordered.{ordered_tail, ordered_later}
 
 same_object : {x y : Object} → ◌≡◌ {A = Option Object} (Some x) (Some y) → x ≡ y
 same_object e = cc

@@ -8,7 +8,7 @@ use Rattle.k_types.specs.Owners.{objects_of, owner_of}
 use Rattle.k_types.specs.Reach.{reach_in}
 use Rattle.k_types.specs.State.{Object, State, has}
 use Rattle.k_types.specs.Trace.{Trace}
-use Rattle.k_base.proofs.Objects.{has-kept}
+use Rattle.k_types.proofs.Objects.{has-kept}
 use Rattle.k_laws.proofs.Closure.{all_there, in_set, set, set_is}
 use Rattle.k_scan.proofs.Chosen.{is_chosen, kept_alike_all}
 

@@ -7,7 +7,7 @@ use Rattle.k_types.specs.Trace.{segment_count, trace_of}
 use Rattle.k_cell.specs.k_tie.Values.{NoteValue}
 use Rattle.k_cell.specs.Holdings.{HasObjectRoom}
 use Rattle.k_shared.specs.SharedHeaps.{holdings_of, opened_shared, shared_segment}
-use Rattle.k_base.proofs.Lists.{at_number}
+use Rattle.k_types.proofs.Lists.{at_number}
 
 own_listed : (setup : Setup) (id : SharedId) (n : ℕ) → id.0 < setup.shared →
     get_or (map (λ number. cond (number == shared_segment setup id) (Some n) None) (numbers_below (segment_count (trace_of setup [] [])))) (shared_segment setup id) None ≡ Some n

@@ -5,13 +5,13 @@ use Rattle.std.proofs.Math.Bool.{and-false, and-true, or-false, or-true, not-not
 use Rattle.std.proofs.Math.ListN.{length-set}
 use Rattle.std.proofs.lemmas.List.Folds.{list_any-append}
 use Rattle.std.proofs.lemmas.Bool.{false≢true, cases_eq, cases_Bool, or_cases, and_parts, and_from, false_from_ne_true, lt-ltb, ltb-true}
-use Rattle.k_base.proofs.Lists.{below_any}
-use Rattle.k_base.proofs.Numbered.{passes_below, listed_below}
-use Rattle.k_base.proofs.Tests.{same_test}
-use Rattle.k_base.specs.k_types.Names.{among}
-use Rattle.k_base.specs.k_types.Numbers.{numbers_below, numbers_from}
-use Rattle.k_base.specs.k_types.State.{Sharing, has_share}
-use Rattle.k_base.specs.k_types.Steps.{has_sharer}
+use Rattle.k_types.proofs.Lists.{below_any}
+use Rattle.k_types.proofs.Numbered.{passes_below, listed_below}
+use Rattle.k_types.proofs.Tests.{same_test}
+use Rattle.k_types.specs.Names.{among}
+use Rattle.k_types.specs.Numbers.{numbers_below, numbers_from}
+use Rattle.k_types.specs.State.{Sharing, has_share}
+use Rattle.k_types.specs.Steps.{has_sharer}
 use Rattle.k_shares.specs.Sharers.{GainsShare, LosesShare, GainsEnded}
 use Rattle.k_shares.specs.Places.{place_of, bit_at, bit_of, sharing, shares_by, shares_of_all, shares_in, ended_in}
 use Rattle.k_shares.proofs.Places.{place_inside, same_pair}

@@ -3,11 +3,11 @@ use Rattle.std.proofs.Common.{◌≡◌, ℕ, ◌+◌, ◌-◌, ◌*◌, ◌<◌
 use Rattle.std.proofs.lemmas.Bool.{false≢true, cases_eq}
 use Rattle.std.proofs.lemmas.List.{length-replicate}
 use Rattle.std.proofs.Math.ListN.{length-set}
-use Rattle.k_base.proofs.Lists.{numbers_length}
-use Rattle.k_base.proofs.Sums.{one_counts, ones, sum_both, sum_same}
-use Rattle.k_base.specs.k_types.declared.names.Phase.{Phase}
-use Rattle.k_base.specs.k_types.Names.{among}
-use Rattle.k_base.specs.k_types.Numbers.{numbers_below}
+use Rattle.k_types.proofs.Lists.{numbers_length}
+use Rattle.k_types.proofs.Sums.{one_counts, ones, sum_both, sum_same}
+use Rattle.k_types.specs.declared.names.Phase.{Phase}
+use Rattle.k_types.specs.Names.{among}
+use Rattle.k_types.specs.Numbers.{numbers_below}
 use Rattle.k_shares.specs.Sharers.{living_of, GainsEnded, ShareValue}
 use Rattle.k_shares.specs.Places.{ended_in, shown, HaveSizes}
 use Rattle.k_shares.proofs.BitTests.{ends}

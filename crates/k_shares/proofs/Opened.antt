@@ -1,9 +1,9 @@
 -- The lists of a table that was just made.
 use Rattle.std.proofs.Common.{◌≡◌, ℕ, zero, suc, ◌+◌, ◌*◌, ◌^◌, ◌<◌, not, Bool, true, false, cond, refl, sym, ap, ◌∙◌, List, [], ◌∷◌, ◌++◌, map, filter, length, replicate, arith}
 use Rattle.std.proofs.lemmas.List.{get_or-replicate, length-replicate}
-use Rattle.k_base.specs.k_types.declared.names.Phase.{Phase}
-use Rattle.k_base.specs.k_types.declared.names.Phase.TheVariants.{Unmade}
-use Rattle.k_base.specs.k_types.Numbers.{numbers_below, numbers_from}
+use Rattle.k_types.specs.declared.names.Phase.{Phase}
+use Rattle.k_types.specs.declared.names.Phase.TheVariants.{Unmade}
+use Rattle.k_types.specs.Numbers.{numbers_below, numbers_from}
 use Rattle.k_shares.specs.Places.{place_of, bit_at, bit_of, sharing, shares_of_all, shares_in, ended_in, shown, HaveSizes}
 use Rattle.k_shares.specs.Sharers.{unshared}
 

@@ -1,7 +1,7 @@
 -- Searches through the numbers below a bound, from one on.
 use Rattle.std.proofs.Common.{◌≡◌, ℕ, suc, ◌+◌, ◌-◌, ◌<◌, ◌≤◌, ◌||◌, Bool, true, false, cond, sym, ap, ◌∙◌, find, Option, Some, None, arith}
 use Rattle.std.specs.List.{list_any}
-use Rattle.k_base.specs.k_types.Numbers.{numbers_from}
+use Rattle.k_types.specs.Numbers.{numbers_from}
 
 -- some number from k on passes
 abbrev pub any_since : (ℕ → Bool) → ℕ → ℕ → Bool

@@ -1,8 +1,8 @@
 -- How the table is kept. No public clause cites this file.
 use Rattle.std.specs.Prelude.{◌≡◌, ℕ, ◌+◌, ◌*◌, ◌<◌, ◌^◌, not, Bool, false, List, [], ◌∷◌, ◌++◌, map, filter, length, slice_index_or}
-use Rattle.k_base.specs.k_types.declared.names.Phase.{Phase}
-use Rattle.k_base.specs.k_types.Numbers.{numbers_below}
-use Rattle.k_base.specs.k_types.State.{Sharing}
+use Rattle.k_types.specs.declared.names.Phase.{Phase}
+use Rattle.k_types.specs.Numbers.{numbers_below}
+use Rattle.k_types.specs.State.{Sharing}
 use Rattle.k_shares.specs.Sharers.{ShareValue}
 
 -- the place of a process and a shared heap among the bits, where there are so many shared heaps

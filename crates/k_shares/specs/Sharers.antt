@@ -1,14 +1,14 @@
 -- What contracts see of the table of processes and shared heaps.
 use Rattle.std.specs.Prelude.{◌≡◌, ℕ, ◌==◌, ◌&&◌, ◌||◌, not, Bool, List, [], length, find, replicate, slice_set, Option, if◌then◌else◌}
-use Rattle.k_base.specs.k_types.declared.names.Phase.{Phase}
-use Rattle.k_base.specs.k_types.declared.names.SharedId.{SharedId}
-use Rattle.k_base.specs.k_types.declared.names.Phase.TheVariants.{Unmade}
-use Rattle.k_base.specs.k_types.Names.{among}
-use Rattle.k_base.specs.k_types.Numbers.{numbers_below}
-use Rattle.k_base.specs.k_types.Owners.{is_absorbed, phase_of}
-use Rattle.k_base.specs.k_types.State.{Sharing, has_share}
-use Rattle.k_base.specs.k_types.Steps.{has_sharer, is_live}
-use Rattle.k_base.specs.k_types.Totals.{total}
+use Rattle.k_types.specs.declared.names.Phase.{Phase}
+use Rattle.k_types.specs.declared.names.SharedId.{SharedId}
+use Rattle.k_types.specs.declared.names.Phase.TheVariants.{Unmade}
+use Rattle.k_types.specs.Names.{among}
+use Rattle.k_types.specs.Numbers.{numbers_below}
+use Rattle.k_types.specs.Owners.{is_absorbed, phase_of}
+use Rattle.k_types.specs.State.{Sharing, has_share}
+use Rattle.k_types.specs.Steps.{has_sharer, is_live}
+use Rattle.k_types.specs.Totals.{total}
 
 -- the number of processes and those that have ended; who shares what; the phase and the bytes of each shared heap
 pub record ShareValue : Type 0 where

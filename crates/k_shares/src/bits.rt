@@ -1,12 +1,12 @@
 //! The bits of the table, and what a phase says of a shared heap.
 ghost use Rattle.std.specs.Prelude.{◌≡◌, ◌*◌, ◌<◌, ◌^◌, length, if◌then◌else◌};
 ghost use Rattle.std.specs.List.{list_any};
-ghost use Rattle.k_base.specs.k_types.Numbers.{numbers_below};
-ghost use Rattle.k_base.specs.k_types.Steps.{is_live};
+ghost use Rattle.k_types.specs.Numbers.{numbers_below};
+ghost use Rattle.k_types.specs.Steps.{is_live};
 ghost use Rattle.k_shares.specs.Sharers.{bytes_in_phase};
 ghost use Rattle.k_shares.specs.Places.{bit_of, place_of};
 
-use k_base::Phase;
+use k_types::Phase;
 
 /// The place of a process and a shared heap, of so many shared heaps.
 #[tactic(auto, using(crate::proofs::Places::place_fits, crate::proofs::Places::row_fits), unfolding(crate::specs::Places::place_of))]

@@ -5,7 +5,7 @@
 //! number of bytes does. [`ShareTable::living`] is a number that is kept beside them. [`ShareTable::first_orphan`] gives the lowest
 //! shared heap that was made, isn't absorbed and has no sharer. Only [`ShareTable::make`] takes memory.
 //!
-//! The crate stands on `k_base` for names, want of memory and lemmas.
+//! The crate stands on `k_types` for names, want of memory and lemmas.
 #![tactic(auto)]
 
 mod bits;

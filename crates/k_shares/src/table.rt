@@ -1,12 +1,12 @@
 //! The table of processes and shared heaps.
 ghost use Rattle.std.specs.Prelude.{◌≡◌, ◌+◌, ◌-◌, ◌*◌, ◌<◌, ◌≤◌, ◌^◌, ℕ, not, Some, None, IfOk, IsTrue, IsFalse, length, option_map, slice_index, slice_set};
-ghost use Rattle.k_base.specs.k_types.Names.{among};
-ghost use Rattle.k_base.specs.k_types.Owners.{phase_of};
-ghost use Rattle.k_base.specs.k_types.State.{has_share};
+ghost use Rattle.k_types.specs.Names.{among};
+ghost use Rattle.k_types.specs.Owners.{phase_of};
+ghost use Rattle.k_types.specs.State.{has_share};
 ghost use Rattle.k_shares.specs.Sharers.{unshared, bytes_in_phase, heap_number, is_orphan_by, living_of, lowest_orphan, GainsShare, LosesShare, GainsEnded};
 
 use crate::bits::{is_shared, place_of_pair, take_bytes, was_made};
-use k_base::{NoMemory, Phase, Pid, SharedId};
+use k_types::{NoMemory, Phase, Pid, SharedId};
 use std::alloc::Global;
 use std::marker::Model;
 

@@ -1,5 +1,5 @@
 pub mod Rooms
 pub mod NextObjects
-pub use Rattle.k_setup.proofs.Lines
-pub use Rattle.k_setup.proofs.Unread
-pub use Rattle.k_shown.proofs.Known
+pub use Rattle.k_laws.proofs.SetupLines as Lines
+pub use Rattle.k_laws.proofs.Unread
+pub use Rattle.k_text.proofs.Known

@@ -7,8 +7,8 @@ use Rattle.k_types.specs.declared.names.Name.{Name}
 use Rattle.k_types.specs.Names.{name_lt}
 use Rattle.k_types.specs.Sound.{IsOrdered}
 use Rattle.k_types.specs.State.{Object}
-use Rattle.k_base.proofs.NameTests.{by_segment_lt, name_lt_asym, name_lt_trans}
-use Rattle.k_base.proofs.Ordered.{ordered_tail}
+use Rattle.k_types.proofs.NameTests.{by_segment_lt, name_lt_asym, name_lt_trans}
+use Rattle.k_types.proofs.Ordered.{ordered_tail}
 use Rattle.k_types.specs.Trace.{Trace, segment_count}
 use Rattle.k_state.specs.Machines.{IsDeclared}
 use Rattle.k_state.specs.Segments.{objects_in}

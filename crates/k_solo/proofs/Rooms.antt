@@ -5,7 +5,7 @@ use Rattle.k_types.specs.Effects.{step}
 use Rattle.k_types.specs.State.{State, opening}
 use Rattle.k_types.specs.Steps.{run, state_after}
 use Rattle.k_types.specs.Trace.{Trace}
-use Rattle.k_frame.proofs.Sizes.{zeros_at}
+use Rattle.k_laws.proofs.Sizes.{zeros_at}
 use Rattle.k_state.specs.Rooms.{HasRoom}
 use Rattle.k_state.proofs.RoomLaws.{room_after_step}
 

@@ -9,8 +9,8 @@ use Rattle.k_types.specs.Complete.{IsComplete}
 use Rattle.k_types.specs.FileOrder.{file_order}
 use Rattle.k_types.specs.Known.{IsKnownEvent}
 use Rattle.k_text.specs.Shown.{exits_of}
-use Rattle.k_setup.specs.Setups.{setup_of}
-use Rattle.k_shown.specs.Heaps.{heap_at}
+use Rattle.k_laws.specs.Setups.{setup_of}
+use Rattle.k_text.specs.Heaps.{heap_at}
 use Rattle.k_state.specs.Machines.{Machine}
 use Rattle.k_plain.specs.Sounds.{IsSoundMachine}
 

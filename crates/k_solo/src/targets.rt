@@ -1,7 +1,7 @@
 //! The targets of exit items in order, heap by heap.
 ghost use Rattle.std.specs.Prelude.{◌≡◌, ◌<◌, ◌-◌, ◌+◌, IfOk, filter, map};
 ghost use Rattle.k_solo.specs.Runs.{AreTargets};
-ghost use Rattle.k_shown.specs.Heaps.{heap_at};
+ghost use Rattle.k_text.specs.Heaps.{heap_at};
 ghost use Rattle.k_text.specs.Shown.{exits_of};
 ghost use Rattle.k_types.specs.Names.{heap_eq};
 ghost use Rattle.k_types.specs.Sound.{AreDistinctExits};

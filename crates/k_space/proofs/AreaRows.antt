@@ -1,6 +1,6 @@
 -- What the objects of an area are after one of them is changed.
 use Rattle.std.proofs.Common.{◌≡◌, ◌≢◌, ◌==◌, ℕ, zero, suc, ◌+◌, ◌<◌, not, false, refl, sym, ap, subst, ◌∙◌, inl, inr, List, [], ◌∷◌, length, map, get_or, set, slice_get, sum_by, Option, Some, None, is_some, eqb-true, arith}
-use Rattle.k_base.proofs.Lists.{some_one, some_inside, slice_get-set_other}
+use Rattle.k_types.proofs.Lists.{some_one, some_inside, slice_get-set_other}
 use Rattle.std.specs.List.{position_or_len}
 use Rattle.std.proofs.Math.Seq.{map-set_same}
 use Rattle.std.proofs.lemmas.Bool.{cases_eq, false≢true}
@@ -8,8 +8,8 @@ use Rattle.std.proofs.lemmas.List.{get_or-set_same, get_or-set_other}
 use Rattle.std.proofs.lemmas.List.Folds.{position_or_len-set}
 use Rattle.std.proofs.lemmas.List.Sums.{passes_at_first, sum_by-set}
 use Rattle.std.proofs.lemmas.Option.{get_or_from_slice_get, slice_get_within}
-use Rattle.k_base.specs.k_types.declared.names.Name.{Name}
-use Rattle.k_base.specs.k_types.Names.{name_eq}
+use Rattle.k_types.specs.declared.names.Name.{Name}
+use Rattle.k_types.specs.Names.{name_eq}
 use Rattle.k_space.specs.Segments.{SegmentValue, Row, Color, row_at, with_row, unmarked_row, unmarked_segment}
 use Rattle.k_space.specs.Areas.{AreaValue, place_of, segment_at, row_in_segment, row_of_name, with_row_of, with_row_in, HasDistinct, unmarked, is_foreign, rows_total}
 use Rattle.k_space.proofs.NameTests.{name_eq-parts}

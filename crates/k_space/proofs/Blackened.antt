@@ -4,9 +4,9 @@ use Rattle.std.proofs.lemmas.Bool.{cases_eq, false≢true}
 use Rattle.std.proofs.lemmas.List.Sums.{sum_by-cons}
 use Rattle.std.proofs.lemmas.List.{get_or-set_same, get_or-set_other, length-set}
 use Rattle.k_space.specs.Cells.{CellsValue, get}
-use Rattle.k_base.proofs.Lists.{some_inside}
-use Rattle.k_base.specs.k_types.Totals.{total}
-use Rattle.k_base.specs.k_types.declared.names.Name.{Name}
+use Rattle.k_types.proofs.Lists.{some_inside}
+use Rattle.k_types.specs.Totals.{total}
+use Rattle.k_types.specs.declared.names.Name.{Name}
 use Rattle.k_space.specs.declared.marks.Place.{Place}
 use Rattle.k_space.specs.declared.marks.Place.TheVariants.{Empty, At}
 use Rattle.k_space.specs.declared.marks.Mark.{Mark}

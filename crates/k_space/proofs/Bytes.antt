@@ -1,13 +1,13 @@
 -- The bytes that a segment keeps.
 use Rattle.std.proofs.Common.{◌≡◌, ℕ, ◌+◌, ◌<◌, ◌≤◌, refl, sym, ap, ap₂, ◌∙◌, inl, inr, List, [], ◌∷◌, ◌++◌, length, map, get_or, set, Option, Some, None, arith}
-use Rattle.k_base.proofs.Sums.{total_set, total_push}
+use Rattle.k_types.proofs.Sums.{total_set, total_push}
 use Rattle.std.proofs.Math.ListN.{get_or-map}
 use Rattle.std.proofs.lemmas.Bool.{cases_eq}
 use Rattle.std.proofs.lemmas.List.{length-set, length-append, get_or-set_other, get_or-set_same, map-set, map-append, length-map}
 use Rattle.k_space.specs.Cells.{CellsValue, get, with_cell}
-use Rattle.k_base.specs.k_types.Totals.{total}
-use Rattle.k_base.specs.k_types.Types.{object_size}
-use Rattle.k_base.specs.k_types.Owners.{object_bytes}
+use Rattle.k_types.specs.Totals.{total}
+use Rattle.k_types.specs.Types.{object_size}
+use Rattle.k_types.specs.Owners.{object_bytes}
 use Rattle.k_space.specs.declared.marks.Place.{Place}
 use Rattle.k_space.specs.declared.marks.Place.TheVariants.{Empty, At}
 use Rattle.k_space.specs.declared.marks.Mark.{Mark}

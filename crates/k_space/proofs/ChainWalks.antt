@@ -2,7 +2,7 @@
 use Rattle.std.proofs.Common.{◌≡◌, ◌≢◌, ℕ, zero, suc, ◌+◌, ◌<◌, refl, sym, ap, subst, ◌∙◌, inl, inr, List, [], ◌∷◌, ◌++◌, length, set, add-one, arith}
 use Rattle.std.proofs.lemmas.Bool.{cases_eq}
 use Rattle.std.proofs.lemmas.List.{get_or-set_same, get_or-set_other, length-set}
-use Rattle.k_base.proofs.Lists.{get_or-set_cases}
+use Rattle.k_types.proofs.Lists.{get_or-set_cases}
 use Rattle.k_space.specs.declared.chains.Spot.{Spot}
 use Rattle.k_space.specs.Chains.{AreChained, AreLinked, IsNext, IsReached, IsRemoved, IsSought, before_at, blank, chain_by, head_at, linked, serial_at, spot_at, with_before}
 use Rattle.k_space.proofs.ChainSteps.{added, unlinked_first, unlinked_passed}

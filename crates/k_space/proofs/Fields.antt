@@ -1,8 +1,8 @@
 -- The fields of a new body.
 use Rattle.std.proofs.Common.{◌≡◌, ℕ, zero, suc, ◌+◌, sym, ap, ap₂, ◌∙◌, List, [], ◌∷◌, ◌++◌, map, take, slice_get, Option, Some, add-one}
 use Rattle.std.proofs.lemmas.List.{map-append}
-use Rattle.k_base.specs.k_types.declared.names.Field.{Field}
-use Rattle.k_base.specs.k_types.State.{fresh}
+use Rattle.k_types.specs.declared.names.Field.{Field}
+use Rattle.k_types.specs.State.{fresh}
 use Rattle.k_space.specs.declared.body.Stored.{Stored}
 use Rattle.k_space.specs.Objects.{content_of}
 

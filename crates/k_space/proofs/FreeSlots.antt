@@ -3,7 +3,7 @@ use Rattle.std.proofs.Common.{◌≡◌, ◌≢◌, ℕ, zero, suc, ◌+◌, ◌
 use Rattle.std.proofs.lemmas.List.{get_or-set_same, get_or-set_other, length-map, map-set}
 use Rattle.std.proofs.lemmas.List.Sums.{sum_by-set, sum_by-cons}
 use Rattle.std.proofs.lemmas.Option.{get_or_from_slice_get, slice_get_read, slice_get_within}
-use Rattle.k_base.proofs.Lists.{slice_get-set_other}
+use Rattle.k_types.proofs.Lists.{slice_get-set_other}
 use Rattle.k_space.specs.declared.cells.Cell.{Cell}
 use Rattle.k_space.specs.declared.cells.SlotState.{SlotState}
 use Rattle.k_space.specs.declared.cells.SlotState.TheVariants.{Free, Full}

@@ -10,7 +10,7 @@ use Rattle.k_space.specs.declared.marks.Mark.{Mark}
 use Rattle.k_space.specs.declared.marks.Mark.TheVariants.{White as MarkWhite, Gray as MarkGray, Black as MarkBlack}
 use Rattle.k_space.specs.declared.cells.Cell.{Cell}
 use Rattle.k_space.specs.declared.segment.Gone.{Gone}
-use Rattle.k_base.specs.k_types.Types.{object_size}
+use Rattle.k_types.specs.Types.{object_size}
 use Rattle.k_space.specs.Segments.{White, Row, SegmentValue, row_at, with_row, is_marked}
 use Rattle.k_space.specs.Sweeping.{IsTakenAway}
 use Rattle.k_space.specs.Places.{row_of, row_in, color_of, IsSound, IsPlaced, IsKept, IsGrayList, is_gray_place, is_white_place}

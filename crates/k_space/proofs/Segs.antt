@@ -4,9 +4,8 @@ use Rattle.std.specs.Option.{IfNone, IfSome}
 use Rattle.std.proofs.lemmas.Bool.{le-ltb}
 use Rattle.std.proofs.lemmas.Bool.Decides.{nat_tests}
 use Rattle.std.proofs.lemmas.List.{set-get_or}
-use Rattle.std.proofs.lemmas.Option.{get_or_from_slice_get}
-use Rattle.std.proofs.lemmas.Option.{slice_get_within}
-use Rattle.k_base.specs.k_types.declared.names.Name.{Name}
+use Rattle.std.proofs.lemmas.Option.{get_or_from_slice_get, slice_get_within}
+use Rattle.k_types.specs.declared.names.Name.{Name}
 use Rattle.k_space.specs.Bounds.{is_covered, nothing}
 use Rattle.k_space.specs.declared.body.Stored.{Stored}
 use Rattle.k_space.specs.declared.bound.Bound.{Bound}

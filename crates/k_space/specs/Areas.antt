@@ -1,8 +1,8 @@
 -- What a contract sees of an area.
 use Rattle.std.specs.Prelude.{◌≡◌, ℕ, ◌==◌, not, Bool, false, List, length, map, slice_get, slice_set, Option, Some, None, is_some, option_map}
 use Rattle.std.specs.List.{position_or_len, sum_by}
-use Rattle.k_base.specs.k_types.declared.names.Name.{Name}
-use Rattle.k_base.specs.k_types.State.{Content}
+use Rattle.k_types.specs.declared.names.Name.{Name}
+use Rattle.k_types.specs.State.{Content}
 use Rattle.k_space.specs.declared.bound.Bound.{Bound}
 use Rattle.k_space.specs.Bounds.{bound_in}
 use Rattle.k_space.specs.Segments.{SegmentValue, Row, Black, Gray, row_at, with_row, some_gray, some_black, some_marked, unmarked_segment, blackened_segment, gray_or_black}

@@ -1,6 +1,6 @@
 -- Which objects were there at a time.
 use Rattle.std.specs.Prelude.{◌==◌, ℕ, nat_lt, Bool, false, if◌then◌else◌}
-use Rattle.k_base.specs.k_types.declared.names.Name.{Name}
+use Rattle.k_types.specs.declared.names.Name.{Name}
 use Rattle.k_space.specs.declared.bound.Bound.{Bound}
 
 -- the name is of the one segment and its serial is lower, or it is of another one

@@ -1,10 +1,10 @@
 -- What an object holds, and what a contract sees of a body.
 use Rattle.std.specs.Prelude.{◌≡◌, ℕ, List, map, replicate, slice_get, Option, Some, None}
-use Rattle.k_base.specs.k_types.declared.names.Name.{Name}
-use Rattle.k_base.specs.k_types.declared.names.TypeId.{TypeId}
-use Rattle.k_base.specs.k_types.declared.names.Field.{Field}
-use Rattle.k_base.specs.k_types.Types.{type_row}
-use Rattle.k_base.specs.k_types.State.{Content, Refers, Holds, fresh}
+use Rattle.k_types.specs.declared.names.Name.{Name}
+use Rattle.k_types.specs.declared.names.TypeId.{TypeId}
+use Rattle.k_types.specs.declared.names.Field.{Field}
+use Rattle.k_types.specs.Types.{type_row}
+use Rattle.k_types.specs.State.{Content, Refers, Holds, fresh}
 use Rattle.k_space.specs.declared.body.Stored.{Stored}
 use Rattle.k_space.specs.declared.body.Stored.TheVariants.{Null as StoredNull, Refers as StoredRef, Holds as StoredInt}
 

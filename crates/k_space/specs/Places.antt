@@ -1,8 +1,8 @@
 -- How a segment keeps its objects. No public clause cites this file.
 use Rattle.std.specs.Prelude.{◌≡◌, ℕ, zero, suc, ◌+◌, ◌*◌, ◌<◌, ◌≤◌, ◌^◌, Bool, true, false, List, [], ◌∷◌, length, map, count_by, slice_index_or, Option, Some, None}
 use Rattle.k_space.specs.Cells.{CellsValue, get, count_held}
-use Rattle.k_base.specs.k_types.Totals.{total}
-use Rattle.k_base.specs.k_types.Types.{object_size}
+use Rattle.k_types.specs.Totals.{total}
+use Rattle.k_types.specs.Types.{object_size}
 use Rattle.k_space.specs.declared.marks.Place.{Place}
 use Rattle.k_space.specs.declared.marks.Place.TheVariants.{Empty, At}
 use Rattle.k_space.specs.declared.marks.Mark.{Mark}

@@ -1,9 +1,9 @@
 -- What a contract sees of a segment.
 use Rattle.std.specs.Prelude.{◌≡◌, ℕ, zero, suc, ◌+◌, ◌-◌, ◌*◌, ◌<◌, ◌≤◌, ◌^◌, Bool, true, false, List, [], ◌∷◌, ◌++◌, length, map, slice_index_or, slice_set, count_by, is_some, Option, Some, None}
-use Rattle.k_base.specs.k_types.declared.names.TypeId.{TypeId}
-use Rattle.k_base.specs.k_types.State.{Content, Object}
-use Rattle.k_base.specs.k_types.Totals.{total}
-use Rattle.k_base.specs.k_types.Owners.{object_bytes}
+use Rattle.k_types.specs.declared.names.TypeId.{TypeId}
+use Rattle.k_types.specs.State.{Content, Object}
+use Rattle.k_types.specs.Totals.{total}
+use Rattle.k_types.specs.Owners.{object_bytes}
 use Rattle.k_space.specs.Objects.{BodyValue}
 
 -- white: not marked; gray: marked, its fields not yet looked at; black: marked, its fields looked at

@@ -1,6 +1,6 @@
 -- What sweeping frees.
 use Rattle.std.specs.Prelude.{◌≡◌, Some, None, length}
-use Rattle.k_base.specs.k_types.Types.{object_size}
+use Rattle.k_types.specs.Types.{object_size}
 use Rattle.k_space.specs.declared.segment.Gone.{Gone}
 use Rattle.k_space.specs.Segments.{SegmentValue, Row, White, row_at, with_row}
 

@@ -1,6 +1,6 @@
 -- What a visit of a gray object does.
 use Rattle.std.specs.Prelude.{◌≡◌, ℕ, ◌<◌, ◌≤◌, IsFalse, List, length, slice_get, slice_index_or, Some}
-use Rattle.k_base.specs.k_types.State.{Content}
+use Rattle.k_types.specs.State.{Content}
 use Rattle.k_space.specs.declared.body.Stored.{Stored}
 use Rattle.k_space.specs.declared.body.Stored.TheVariants.{Null as NoTarget}
 use Rattle.k_space.specs.declared.segment.Visited.{Visited}

@@ -6,14 +6,14 @@ ghost use Rattle.std.specs.List.{position_or_len};
 ghost use Rattle.k_space.specs.Segments.{Row, SegmentValue, row_at, some_gray, unmarked_segment};
 ghost use Rattle.k_space.specs.Hints.{AreExact, numbers};
 ghost use Rattle.k_space.specs.Visiting.{IsVisited, IsVisitedFrom};
-ghost use Rattle.k_base.specs.k_types.Names.{name_of};
-ghost use Rattle.k_base.specs.k_types.declared.names.Name.{Name as Named};
+ghost use Rattle.k_types.specs.Names.{name_of};
+ghost use Rattle.k_types.specs.declared.names.Name.{Name as Named};
 ghost use Rattle.k_space.specs.Areas.{place_of, row_of_name, segment_at, HasDistinct, is_foreign, gray_at, grayed, has_number, unmarked, blackened, blackened_in};
 
 use crate::body::Stored;
 use crate::bound::Bound;
 use crate::segment::{Segment, Visited};
-use k_base::{Link, Name, NoMemory, Seg};
+use k_types::{Link, Name, NoMemory, Seg};
 use std::alloc::Global;
 use std::marker::Model;
 

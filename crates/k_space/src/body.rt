@@ -1,13 +1,13 @@
 //! The fields of one object.
 ghost use Rattle.std.specs.Prelude.{◌≡◌, length, slice_get, slice_set, Some, slice_index_or, option_map, ℕ, ◌<◌, ◌≤◌, IfOk};
 ghost use Rattle.k_space.specs.declared.body.Stored.TheVariants.{Null as NoTarget};
-ghost use Rattle.k_base.specs.k_types.State.{Refers, Holds, field_kind, fresh};
-ghost use Rattle.k_base.specs.k_types.Types.{object_size};
+ghost use Rattle.k_types.specs.State.{Refers, Holds, field_kind, fresh};
+ghost use Rattle.k_types.specs.Types.{object_size};
 ghost use Rattle.k_space.specs.Objects.{HasRef, HasInt, content_of, new_body, new_directory};
-ghost use Rattle.k_base.specs.k_types.Names.{name_of};
+ghost use Rattle.k_types.specs.Names.{name_of};
 
 use crate::chains::short;
-use k_base::{Field, Link, Name, NoMemory, Slot, TypeId, TypeTable, object_size};
+use k_types::{Field, Link, Name, NoMemory, Slot, TypeId, TypeTable, object_size};
 use std::alloc::Global;
 use std::marker::Model;
 

@@ -2,7 +2,7 @@
 ghost use Rattle.std.specs.Prelude.{◌≡◌, ◌+◌, ℕ};
 ghost use Rattle.k_space.specs.Bounds.{bound_in, is_covered, nothing};
 
-use k_base::{Name, Seg};
+use k_types::{Name, Seg};
 
 /// Objects that were there at a time: those of one segment with lower serials, and all objects of the other segments, or none. These
 /// it tells as long as no other segment makes one.

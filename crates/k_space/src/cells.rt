@@ -1,12 +1,12 @@
 //! The objects of a segment by slot, and the list of free slots.
 ghost use Rattle.std.specs.Prelude.{◌≡◌, ◌<◌, ◌≤◌, ◌+◌, ◌^◌, [], ℕ, length, max, slice_set, option_map, option_copied, Some, None, IfOk, OnOk, OnErr, IsSome};
-ghost use Rattle.k_base.specs.k_types.State.{Refers, Holds};
-ghost use Rattle.k_base.specs.k_types.Names.{name_of};
+ghost use Rattle.k_types.specs.State.{Refers, Holds};
+ghost use Rattle.k_types.specs.Names.{name_of};
 ghost use Rattle.k_space.specs.Cells.{ChangesAt, count_held, get, with_cell};
 ghost use Rattle.k_space.specs.declared.cells.Cell.{Cell as Lying};
 
 use crate::body::Body;
-use k_base::{Link, NoMemory, Serial};
+use k_types::{Link, NoMemory, Serial};
 use std::alloc::Global;
 use std::marker::Model;
 use std::mem;

@@ -4,7 +4,7 @@ ghost use Rattle.k_space.specs.Segments.{living};
 
 use crate::live::Entry;
 use crate::segment::Segment;
-use k_base::NoMemory;
+use k_types::NoMemory;
 
 /// Memory for so many entries, where there is less.
 fn reserve(live: &mut Vec<Entry>, most: usize) -> Result<(), NoMemory>

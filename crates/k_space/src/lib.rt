@@ -10,8 +10,7 @@
 //! Looking an object up, reading, writing and placing take constant time in the number of objects, where the
 //! hash spreads their serials, and so does taking all marks away. A sweep costs in proportion to the objects that are live when it begins.
 //!
-//! The crate stands on `k_types` for names and types of objects, on `k_io` for want of memory, and on
-//! the lemmas of `k_base`.
+//! The crate stands on `k_types` for names and types of objects, want of memory, and lemmas.
 #![tactic(auto)]
 
 mod area;

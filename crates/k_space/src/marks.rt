@@ -7,7 +7,7 @@ ghost use Rattle.k_space.specs.Places.{white_place, black_place, is_gray_place, 
 ghost use Rattle.k_space.specs.Stamps.{IsHeld, mark_of, plain};
 
 use crate::chains::{Spot, insert, reach, remove};
-use k_base::NoMemory;
+use k_types::NoMemory;
 use std::alloc::Global;
 use std::marker::Model;
 

@@ -1,9 +1,9 @@
 //! The objects made under one number.
 ghost use Rattle.std.specs.Prelude.{◌≡◌, ◌↔◌, ◌<◌, ◌≤◌, ◌+◌, ℕ, length, map, Some, None, option_map, IfOk, IfSome, IfNone, IsSome, ◌∷◌, [], slice_set, slice_get, ◌==◌, IsFalse, IsTrue, OnSome};
-ghost use Rattle.k_base.specs.k_types.State.{Refers, Holds, field_kind};
-ghost use Rattle.k_base.specs.k_types.Types.{object_size};
+ghost use Rattle.k_types.specs.State.{Refers, Holds, field_kind};
+ghost use Rattle.k_types.specs.Types.{object_size};
 ghost use Rattle.k_space.specs.Objects.{HasRef, HasInt, content_of};
-ghost use Rattle.k_base.specs.k_types.Names.{name_of};
+ghost use Rattle.k_types.specs.Names.{name_of};
 ghost use Rattle.k_space.specs.Segments.{Row, White, LiesAt, IsLive, HasRoom, row_at, living, made, with_row, IsSegment, placed, some_gray, is_gray, is_marked, gray_or_black, segment_bytes, unmarked_segment, blackened_segment, body_of};
 ghost use Rattle.k_space.specs.Sweeping.{IsTakenAway};
 ghost use Rattle.k_space.specs.Visiting.{AreHeld, IsVisitedFromIn, IsVisitedIn};
@@ -16,7 +16,7 @@ use crate::cells::{Cell, Cells};
 use crate::chains::short;
 use crate::live::{Entry, blacken, next_white};
 use crate::marks::{Mark, Place, Places};
-use k_base::{Field, Link, Name, NoMemory, Seg, Serial, Slot, TypeId};
+use k_types::{Field, Link, Name, NoMemory, Seg, Serial, Slot, TypeId};
 use std::alloc::{AllocError, Global};
 use std::marker::Model;
 

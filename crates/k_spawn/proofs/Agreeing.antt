@@ -5,7 +5,7 @@ use Rattle.std.proofs.lemmas.Bool.{or_left, or_right, and_from}
 use Rattle.k_types.specs.declared.names.Name.{Name}
 use Rattle.k_types.specs.Names.{name_eq, leads_to}
 use Rattle.k_types.specs.State.{Object, ExitItem, has, has_exit}
-use Rattle.k_base.proofs.NameTests.{name_eq_refl, heap_eq_refl}
+use Rattle.k_types.proofs.NameTests.{name_eq_refl, heap_eq_refl}
 
 pub kept_agree : {A : Type 0} (f g : A → Bool) (xs : List A) → AllByRecursion (λ x. f x ≡ g x) xs → filter f xs ≡ filter g xs
 kept_agree f g [] same = refl

@@ -8,8 +8,8 @@ use Rattle.k_types.specs.Limits.{max_of, use_within}
 use Rattle.k_types.specs.Numbers.{numbers_from}
 use Rattle.k_types.specs.Trace.{limit_of, process_count}
 use Rattle.k_types.specs.TraceRules.{AreLimits, IsTree}
-use Rattle.k_base.proofs.Lists.{length_push, numbers_length, numbers_push, at_number}
-use Rattle.k_base.proofs.Sums.{bit}
+use Rattle.k_types.proofs.Lists.{length_push, numbers_length, numbers_push, at_number}
+use Rattle.k_types.proofs.Sums.{bit}
 use Rattle.k_limits.proofs.Charges.{use_charged, use_deep}
 use Rattle.k_limits.proofs.Reserves.{reservation, row_before, tree_before, use_before, use_last}
 use Rattle.k_reader.proofs.Keeps.{each_row, tree_push}

@@ -15,8 +15,8 @@ use Rattle.k_types.specs.State.{State}
 use Rattle.k_types.specs.Steps.{run}
 use Rattle.k_types.specs.Trace.{Trace, row_of}
 use Rattle.k_types.specs.Updates.{count_done, set_max}
-use Rattle.k_base.proofs.Charges.{path_low}
-use Rattle.k_base.proofs.Maxima.{length_in, tree_in}
+use Rattle.k_types.proofs.Charges.{path_low}
+use Rattle.k_types.proofs.Maxima.{length_in, tree_in}
 use Rattle.k_spawn.specs.Families.{parent_of}
 use Rattle.k_spawn.specs.Scripts.{Script, family, limit_for}
 use Rattle.k_spawn.specs.Translation.{limit_id, translation}

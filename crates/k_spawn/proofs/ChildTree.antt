@@ -8,7 +8,7 @@ use Rattle.k_types.specs.Limits.{ancestors_above, ancestors_within, is_ancestor}
 use Rattle.k_types.specs.Names.{among}
 use Rattle.k_types.specs.Trace.{limit_of, no_row, process_count, row_of}
 use Rattle.k_types.specs.TraceRules.{IsTree}
-use Rattle.k_base.proofs.Lists.{some_one, at_number}
+use Rattle.k_types.proofs.Lists.{some_one, at_number}
 use Rattle.k_spawn.specs.Families.{children, parent_of, place_of}
 use Rattle.k_spawn.specs.Scripts.{Script, family, limit_for}
 use Rattle.k_spawn.specs.Translation.{child_row, limit_id, translation}

@@ -12,7 +12,7 @@ use Rattle.k_types.specs.declared.op.Op.TheVariants.{Kill, Resize}
 use Rattle.k_types.specs.declared.op.Op.{Op}
 use Rattle.k_types.specs.Numbers.{numbers_from, numbers_below}
 use Rattle.k_trace.specs.OperationLists.{OperationLists, no_operations, with_no_operations, with_operation}
-use Rattle.k_base.proofs.Lists.{numbers_length, at_number}
+use Rattle.k_types.proofs.Lists.{numbers_length, at_number}
 use Rattle.k_spawn.specs.declared.script.ScriptLine.{ScriptLine}
 use Rattle.k_types.specs.Trace.{process_count}
 use Rattle.k_spawn.specs.Families.{children}

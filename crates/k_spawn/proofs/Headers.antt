@@ -13,7 +13,7 @@ use Rattle.k_reader.proofs.Found.{step_found}
 use Rattle.k_reader.proofs.Steps.{Step, OfVersion, OfKernel, OfType, OfRoot, OfLimit, OfProc, OfShared, OfOperation}
 use Rattle.k_spawn.specs.Outcome.{ReaderState, IsNamed, IsReader, IsHeaderPlace, IsOfHeader, place_now, so_far}
 use Rattle.k_spawn.specs.Scripts.{Script}
-use Rattle.k_base.proofs.Lists.{length_push}
+use Rattle.k_types.proofs.Lists.{length_push}
 
 -- a place that is not the first line's
 abbrev IsLater : Place → Type 0

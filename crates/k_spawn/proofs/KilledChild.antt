@@ -14,8 +14,8 @@ use Rattle.k_types.specs.Sound.{IsSound}
 use Rattle.k_types.specs.State.{ExitItem, Sharing, State, has_exit, has_share}
 use Rattle.k_types.specs.Trace.{Trace}
 use Rattle.k_types.specs.Updates.{clear_registers, end_process, keep_shares, turn_exits}
-use Rattle.k_base.proofs.Charges.{or_none}
-use Rattle.k_base.proofs.NameTests.{heap_eq-true}
+use Rattle.k_types.proofs.Charges.{or_none}
+use Rattle.k_types.proofs.NameTests.{heap_eq-true}
 use Rattle.k_laws.proofs.Means.{is_own_if}
 use Rattle.k_spawn.proofs.Agreeing.{all_exits, turned_agree}
 use Rattle.k_spawn.proofs.Twins.{OwnsAlike, exited_twin, twin, with_limits}

@@ -17,8 +17,8 @@ use Rattle.k_types.specs.State.{Sharing, State, has, has_share}
 use Rattle.k_types.specs.Steps.{IsLegalHistory, done_by, state_after}
 use Rattle.k_types.specs.Trace.{Trace, limit_of, process_count}
 use Rattle.k_types.specs.TraceRules.{AreLimits}
-use Rattle.k_base.proofs.Maxima.{length_in}
-use Rattle.k_frame.proofs.Exact.{same_below}
+use Rattle.k_types.proofs.Maxima.{length_in}
+use Rattle.k_laws.proofs.Exact.{same_below}
 use Rattle.k_laws.proofs.Means.{is_own_if}
 use Rattle.k_laws.proofs.SoundSharing.{bytes_none}
 use Rattle.k_laws.proofs.SoundSteps.{legal_sound}

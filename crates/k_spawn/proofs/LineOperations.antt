@@ -12,8 +12,8 @@ use Rattle.k_types.specs.Numbers.{numbers_below}
 use Rattle.k_types.specs.Steps.{in_range}
 use Rattle.k_types.specs.Trace.{Trace, operations_of, process_count}
 use Rattle.k_types.specs.TraceRules.{AreOperations, EndsWithExit, is_exit, is_of_version, is_spelled}
-use Rattle.k_base.proofs.Lists.{numbers_length, at_number}
-use Rattle.k_base.proofs.Sums.{bit, count_is_total, total_append}
+use Rattle.k_types.proofs.Lists.{numbers_length, at_number}
+use Rattle.k_types.proofs.Sums.{bit, count_is_total, total_append}
 use Rattle.k_trace.specs.Grown.{has_exit}
 use Rattle.k_reader.proofs.OpLists.{ends_nil, ends_push, times, times_head, none_ends}
 use Rattle.k_spawn.specs.declared.script.Deed.{Deed}

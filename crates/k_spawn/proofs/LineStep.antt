@@ -13,9 +13,9 @@ use Rattle.k_types.specs.State.{State, opening}
 use Rattle.k_types.specs.Steps.{IsLegalHistory, done_by, run}
 use Rattle.k_types.specs.Trace.{Trace, operations_of, process_count}
 use Rattle.k_types.specs.TraceRules.{AreOperations, is_exit, is_of_version}
-use Rattle.k_base.proofs.Charges.{or_none}
-use Rattle.k_frame.proofs.Histories.{legal_append}
-use Rattle.k_order.proofs.Lines.{Ready}
+use Rattle.k_types.proofs.Charges.{or_none}
+use Rattle.k_laws.proofs.Histories.{legal_append}
+use Rattle.k_laws.proofs.Lines.{Ready}
 use Rattle.k_spawn.specs.declared.script.Deed.{Deed}
 use Rattle.k_spawn.specs.declared.script.Deed.TheVariants.{Does, Spawns, Reaps}
 use Rattle.k_spawn.specs.declared.script.ScriptLine.{ScriptLine}

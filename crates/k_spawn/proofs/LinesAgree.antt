@@ -10,8 +10,8 @@ use Rattle.k_types.specs.State.{State, opening}
 use Rattle.k_types.specs.Steps.{run}
 use Rattle.k_types.specs.Trace.{Trace, operations_of, process_count}
 use Rattle.k_types.specs.TraceRules.{AreOperations}
-use Rattle.k_frame.proofs.Histories.{run_append}
-use Rattle.k_order.proofs.Lines.{Ready}
+use Rattle.k_laws.proofs.Histories.{run_append}
+use Rattle.k_laws.proofs.Lines.{Ready}
 use Rattle.k_spawn.specs.declared.script.Deed.{Deed}
 use Rattle.k_spawn.specs.declared.script.Deed.TheVariants.{Does, Spawns, Reaps}
 use Rattle.k_spawn.specs.declared.script.ScriptLine.{ScriptLine}

@@ -4,7 +4,7 @@ use Rattle.std.proofs.lemmas.Bool.{leb-true}
 use Rattle.std.specs.Str.{bytes_eq}
 use Rattle.k_types.specs.declared.op.Op.{Op}
 use Rattle.k_types.specs.Trace.{Trace, process_count}
-use Rattle.k_base.proofs.Sums.{total_push}
+use Rattle.k_types.proofs.Sums.{total_push}
 use Rattle.k_words.proofs.Spelled.{both, number_word}
 use Rattle.k_trace.specs.Words.{Text, word_at, words_of}
 use Rattle.k_trace.specs.Names.{declares, is_keyword, number_of}
@@ -33,7 +33,7 @@ use Rattle.k_spawn.specs.Timely.{is_due, is_running, operations_so_far, weight}
 use Rattle.k_spawn.proofs.ChildKept.{child_kept, names_counted}
 use Rattle.k_spawn.proofs.HeaderKept.{begins_with, demands_ok, early_kept, proc_kept, shared_kept_procs, shared_kept_shared}
 use Rattle.k_spawn.proofs.KeptSoFar.{AllInTime, AreLines, IsGoodDeed, IsGoodLine, IsHeader, IsInTime, IsPeopled, IsWhole, Keeps}
-use Rattle.k_base.proofs.Lists.{all_push}
+use Rattle.k_types.proofs.Lists.{all_push}
 
 -- ---- deeds
 

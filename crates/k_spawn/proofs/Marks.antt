@@ -14,7 +14,7 @@ use Rattle.k_spawn.specs.declared.script.ScriptLine.{ScriptLine}
 use Rattle.k_spawn.specs.Courses.{IsKept, AreMarked, reaped_by, weight_by}
 use Rattle.k_spawn.specs.Families.{Family, reaped_with}
 use Rattle.k_spawn.specs.Timely.{spawns, reaps, exits, weight}
-use Rattle.k_base.proofs.Sums.{total_push}
+use Rattle.k_types.proofs.Sums.{total_push}
 
 any_push : {A : Type 0} (test : A → Bool) (xs : List A) (y : A) → list_any test (xs ++ y ∷ []) ≡ (list_any test xs || test y)
 any_push test [] y = grind (arith, common_steps)

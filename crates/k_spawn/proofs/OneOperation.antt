@@ -11,11 +11,11 @@ use Rattle.k_types.specs.State.{State}
 use Rattle.k_types.specs.Steps.{IsRun, done_by, is_orphan, run, waits_for_orphans}
 use Rattle.k_types.specs.Trace.{Trace, operations_of, process_count}
 use Rattle.k_types.specs.TraceRules.{AreOperations}
-use Rattle.k_base.proofs.Lists.{some_one}
-use Rattle.k_frame.proofs.Histories.{done_append}
-use Rattle.k_order.proofs.Absorbing.{none_done}
-use Rattle.k_order.proofs.Lines.{LineDone, Ready, line}
-use Rattle.k_order.proofs.FileOrders.{order_next}
+use Rattle.k_types.proofs.Lists.{some_one}
+use Rattle.k_laws.proofs.Histories.{done_append}
+use Rattle.k_laws.proofs.Absorbing.{none_done}
+use Rattle.k_laws.proofs.Lines.{LineDone, Ready, line}
+use Rattle.k_laws.proofs.FileOrders.{order_next}
 
 -- what is left of a list at one of its elements
 pub taken_at : {A : Type 0} (xs : List A) (n : ℕ) (y : A) (ys : List A) → drop n xs ≡ y ∷ ys → slice_get xs n ≡ Some y

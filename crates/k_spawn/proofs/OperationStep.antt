@@ -17,8 +17,8 @@ use Rattle.k_types.specs.State.{State}
 use Rattle.k_types.specs.Steps.{IsLegalHistory, done_by, is_orphan, run, waits_for_orphans}
 use Rattle.k_types.specs.Trace.{Trace}
 use Rattle.k_types.specs.TraceRules.{is_exit, is_of_version, is_resize}
-use Rattle.k_frame.proofs.Constant.{resizes, run_maxima}
-use Rattle.k_frame.proofs.Histories.{done_append}
+use Rattle.k_laws.proofs.Constant.{resizes, run_maxima}
+use Rattle.k_laws.proofs.Histories.{done_append}
 use Rattle.k_spawn.specs.Agreement.{replies_in}
 use Rattle.k_spawn.specs.Scripts.{Script, limit_for}
 use Rattle.k_spawn.specs.Translation.{translation}

@@ -19,10 +19,10 @@ use Rattle.k_types.specs.Totals.{total}
 use Rattle.k_types.specs.Trace.{Trace, operations_of, process_count}
 use Rattle.k_types.specs.TraceRules.{AreOperations}
 use Rattle.k_types.specs.Updates.{count_done, set_max}
-use Rattle.k_base.proofs.Lists.{get_or-set_cases}
-use Rattle.k_frame.proofs.Histories.{done_append, legal_append, run_append}
-use Rattle.k_frame.proofs.Rest.{kill_rest}
-use Rattle.k_order.proofs.Lines.{Ready}
+use Rattle.k_types.proofs.Lists.{get_or-set_cases}
+use Rattle.k_laws.proofs.Histories.{done_append, legal_append, run_append}
+use Rattle.k_laws.proofs.Rest.{kill_rest}
+use Rattle.k_laws.proofs.Lines.{Ready}
 use Rattle.k_spawn.specs.Agreement.{events_for, replies_in}
 use Rattle.k_spawn.specs.Families.{children_of, parent_of}
 use Rattle.k_spawn.specs.Scripts.{Script, family, limit_for}

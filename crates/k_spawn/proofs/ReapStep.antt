@@ -9,11 +9,11 @@ use Rattle.k_types.specs.State.{State}
 use Rattle.k_types.specs.Steps.{IsLegalHistory, done_by}
 use Rattle.k_types.specs.Trace.{Trace}
 use Rattle.k_types.specs.Updates.{count_done, set_max}
-use Rattle.k_base.proofs.Lists.{get_or-set_cases}
-use Rattle.k_frame.proofs.Histories.{done_append}
-use Rattle.k_frame.proofs.Kept.{any-kept}
-use Rattle.k_frame.proofs.Rest.{kill_rest}
-use Rattle.k_base.proofs.Charges.{or_none}
+use Rattle.k_types.proofs.Lists.{get_or-set_cases}
+use Rattle.k_laws.proofs.Histories.{done_append}
+use Rattle.k_laws.proofs.Kept.{any-kept}
+use Rattle.k_laws.proofs.Rest.{kill_rest}
+use Rattle.k_types.proofs.Charges.{or_none}
 use Rattle.k_spawn.specs.Scripts.{Script, limit_for}
 use Rattle.k_spawn.specs.Translation.{translation}
 use Rattle.k_spawn.specs.Tree.{Tree, after_reap, trace_there}

@@ -6,7 +6,7 @@ use Rattle.std.proofs.lemmas.List.Folds.{list_any-append}
 use Rattle.k_types.specs.Names.{among}
 use Rattle.k_types.specs.Numbers.{numbers_from}
 use Rattle.k_spawn.specs.Families.{Family, IsFamily, children_of, parent_of, reaped_within, reaped_with}
-use Rattle.k_base.proofs.Numbered.{listed_from}
+use Rattle.k_types.proofs.Numbered.{listed_from}
 
 -- a number that is in a list, and one that passes a test among numbers in a row
 pub among_head : (n : ℕ) (ns : List ℕ) → IsTrue (among n (n ∷ ns))

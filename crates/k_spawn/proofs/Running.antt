@@ -7,8 +7,8 @@ use Rattle.k_types.specs.FileOrder.{events_of, file_order_from}
 use Rattle.k_types.specs.State.{State}
 use Rattle.k_types.specs.Steps.{IsRun, done_by, run}
 use Rattle.k_types.specs.Trace.{Trace, operations_of, process_count}
-use Rattle.k_frame.proofs.Histories.{done_append, legal_append, run_append}
-use Rattle.k_order.proofs.Lines.{Ready}
+use Rattle.k_laws.proofs.Histories.{done_append, legal_append, run_append}
+use Rattle.k_laws.proofs.Lines.{Ready}
 use Rattle.k_types.specs.declared.event.Event.TheVariants.{Done, Ended, Absorbed, Closing}
 use Rattle.k_spawn.specs.Agreement.{replies_in}
 use Rattle.k_spawn.proofs.OneOperation.{IsNext, one_done}

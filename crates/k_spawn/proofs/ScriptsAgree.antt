@@ -16,10 +16,10 @@ use Rattle.k_types.specs.Steps.{done_by}
 use Rattle.k_types.specs.Totals.{total}
 use Rattle.k_types.specs.Trace.{Trace, no_row, operations_of, process_count}
 use Rattle.k_types.specs.TraceRules.{AreOperations}
-use Rattle.k_base.proofs.NameTests.{name_eq_refl}
-use Rattle.k_base.proofs.Numbered.{occurrences_count}
-use Rattle.k_frame.proofs.Sizes.{get_or-same, opening_sized}
-use Rattle.k_order.proofs.Lines.{Ready}
+use Rattle.k_types.proofs.NameTests.{name_eq_refl}
+use Rattle.k_types.proofs.Numbered.{occurrences_count}
+use Rattle.k_laws.proofs.Sizes.{get_or-same, opening_sized}
+use Rattle.k_laws.proofs.Lines.{Ready}
 use Rattle.k_spawn.specs.declared.script.ScriptLine.{ScriptLine}
 use Rattle.k_spawn.specs.Agreement.{AgreesWithTree, TreesAgree, AnswersAlike, IsAbsent, IsSameTree, StaysBelow, events_of_lines, is_there, state_after_lines, tree_before}
 use Rattle.k_spawn.specs.Families.{children, is_child}
@@ -35,7 +35,7 @@ use Rattle.k_spawn.proofs.LinesAgree.{IsBehind, behind_all, filed_from, stepped}
 use Rattle.k_spawn.proofs.ScriptsKeep.{judged_keeps, judged_whole}
 use Rattle.k_spawn.proofs.TimelyLines.{AreTimely, IsTimely, all_timely, no_lineage}
 use Rattle.k_spawn.proofs.Unborn.{unborn}
-use Rattle.k_base.proofs.Lists.{at_number}
+use Rattle.k_types.proofs.Lists.{at_number}
 
 -- registers that hold nothing are null
 null_registers : (rs : List (Option Name)) → ((m : Name) → list_any (λ r. leads_to r m) rs ≡ false) → rs ≡ replicate (length rs) None

@@ -13,7 +13,7 @@ use Rattle.k_types.specs.Steps.{IsLegalHistory, done_by}
 use Rattle.k_types.specs.Totals.{total}
 use Rattle.k_types.specs.Trace.{Trace}
 use Rattle.k_types.specs.Updates.{count_done, set_max}
-use Rattle.k_frame.proofs.Histories.{done_append}
+use Rattle.k_laws.proofs.Histories.{done_append}
 use Rattle.k_spawn.specs.Families.{parent_of}
 use Rattle.k_spawn.specs.Scripts.{Script, family, limit_for}
 use Rattle.k_spawn.specs.Translation.{limit_id, translation}

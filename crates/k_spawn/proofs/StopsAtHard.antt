@@ -28,9 +28,9 @@ use Rattle.k_types.specs.Steps.{IsPossible, IsRun, has_sharer, is_live, is_orpha
 use Rattle.k_types.specs.Trace.{Trace, limit_of, row_of}
 use Rattle.k_types.specs.TraceRules.{ends_a_process, is_of_version}
 use Rattle.k_types.specs.Updates.{close_scan, count_done, keep_exits, keep_objects, keep_shares, set_max}
-use Rattle.k_base.proofs.Lists.{none_is, filter_stronger}
-use Rattle.k_base.proofs.Maxima.{hard_in, length_in}
-use Rattle.k_base.proofs.Sums.{bit, sum_same}
+use Rattle.k_types.proofs.Lists.{none_is, filter_stronger}
+use Rattle.k_types.proofs.Maxima.{hard_in, length_in}
+use Rattle.k_types.proofs.Sums.{bit, sum_same}
 use Rattle.k_laws.specs.Changes.{MayAbsorb}
 use Rattle.k_laws.specs.Charges.{bytes_added}
 use Rattle.k_laws.specs.Resizing.{reserves_at, reserves_by}
@@ -40,8 +40,8 @@ use Rattle.k_laws.proofs.SoundResized.{moves_the_reservation}
 use Rattle.k_laws.proofs.SoundSteps.{step_sound}
 use Rattle.k_laws.proofs.UsesRaised.{uses_raised}
 use Rattle.k_laws.proofs.UseShown.{use_is_shown}
-use Rattle.k_changes.proofs.CollectedOnBook.{other_bytes}
-use Rattle.k_changes.proofs.Laws.{what_absorption_changes_in_the_book}
+use Rattle.k_laws.proofs.CollectedOnBook.{other_bytes}
+use Rattle.k_laws.proofs.ChangesLaws.{what_absorption_changes_in_the_book}
 use Rattle.k_types.specs.Cells.{use_shown}
 use Rattle.k_spawn.specs.Families.{parent_of}
 use Rattle.k_spawn.specs.Scripts.{Script, family, limit_for}

@@ -17,8 +17,8 @@ use Rattle.k_types.specs.Updates.{count_done, set_register, create, open_scan, s
 use Rattle.k_types.specs.Effects.{step, effect, effect_unless, after_operation, after_end_of, after_ended}
 use Rattle.k_types.specs.Steps.{run, waits_for_orphans}
 use Rattle.k_types.specs.FileOrder.{absorptions, end_of, events_of, heap_begun, with_end}
-use Rattle.k_frame.proofs.Histories.{run_append}
-use Rattle.k_frame.proofs.Rest.{store_rest, put_rest, freeze_rest}
+use Rattle.k_laws.proofs.Histories.{run_append}
+use Rattle.k_laws.proofs.Rest.{store_rest, put_rest, freeze_rest}
 use Rattle.k_spawn.proofs.Twins.{twin, twins_if, AreTwins, OwnsAlike, with_limits, end_same, ended_twin, Absorbs, orphans_absorbed}
 use Rattle.k_spawn.proofs.TwinReplies.{ended_by, operation_twin, reply_same}
 

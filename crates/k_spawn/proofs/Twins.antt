@@ -24,8 +24,8 @@ use Rattle.k_types.specs.Updates.{keep_objects, keep_exits, keep_shares, close_s
 use Rattle.k_types.specs.Effects.{step, after_ended, after_absorbed, after_end_of, exit_after, survives, exit_stays, share_stays, stays_after_absorb, open_roots, register_lies_in, registers_of}
 use Rattle.k_types.specs.Steps.{run, is_orphan}
 use Rattle.k_types.specs.FileOrder.{absorptions, end_of}
-use Rattle.k_base.proofs.Objects.{has-kept}
-use Rattle.k_frame.proofs.Kept.{any-fewer}
+use Rattle.k_types.proofs.Objects.{has-kept}
+use Rattle.k_laws.proofs.Kept.{any-fewer}
 use Rattle.k_spawn.proofs.Agreeing.{kept_agree, any_agree, turned_agree, all_objects, all_exits, all_registers}
 
 -- the state with others as those who have ended, and other counts of operations

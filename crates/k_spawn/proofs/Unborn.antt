@@ -17,11 +17,11 @@ use Rattle.k_types.specs.Updates.{count_done, set_register, create, open_scan, c
 use Rattle.k_types.specs.Effects.{step, effect, effect_unless, after_operation, after_end_of, after_kill, after_ended, after_absorbed, after_closing, share_stays}
 use Rattle.k_types.specs.Steps.{IsLegalHistory, done_by, run, state_after}
 use Rattle.k_types.specs.Sound.{IsSound}
-use Rattle.k_frame.proofs.Kept.{any-fewer}
-use Rattle.k_frame.proofs.Rest.{store_rest, put_rest, freeze_rest}
-use Rattle.k_bounds.specs.Counts.{exit_count, one_if, stores_by, stores_in}
-use Rattle.k_bounds.proofs.Laws.{exit_items_are_at_most_the_stores-user}
-use Rattle.k_frame.proofs.Sizes.{get_or-same}
+use Rattle.k_laws.proofs.Kept.{any-fewer}
+use Rattle.k_laws.proofs.Rest.{store_rest, put_rest, freeze_rest}
+use Rattle.k_laws.specs.Counts.{exit_count, one_if, stores_by, stores_in}
+use Rattle.k_laws.proofs.BoundsLaws.{exit_items_are_at_most_the_stores-user}
+use Rattle.k_laws.proofs.Sizes.{get_or-same}
 use Rattle.k_laws.proofs.SoundSharing.{share_cases}
 
 -- the process holds nothing, shares nothing and has made nothing

@@ -7,9 +7,9 @@ use Rattle.k_types.specs.Limits.{direct_by, is_parent, limits_in, max_of, use_of
 use Rattle.k_types.specs.Owners.{charge_of}
 use Rattle.k_types.specs.State.{State}
 use Rattle.k_types.specs.Trace.{Trace, limit_of, process_count, row_of}
-use Rattle.k_base.proofs.Maxima.{hard_in, length_in, parent_in}
-use Rattle.k_base.proofs.Sums.{zeros}
-use Rattle.k_frame.proofs.Exact.{same_below}
+use Rattle.k_types.proofs.Maxima.{hard_in, length_in, parent_in}
+use Rattle.k_types.proofs.Sums.{zeros}
+use Rattle.k_laws.proofs.Exact.{same_below}
 use Rattle.k_spawn.specs.Families.{parent_of}
 use Rattle.k_spawn.specs.Scripts.{Script, family, limit_for}
 use Rattle.k_spawn.specs.Translation.{limit_id, translation}

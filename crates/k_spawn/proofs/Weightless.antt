@@ -7,7 +7,7 @@ use Rattle.k_types.specs.declared.setup.LimitRow.{LimitRow}
 use Rattle.k_types.specs.Trace.{row_of}
 use Rattle.k_types.specs.Numbers.{numbers_below, numbers_from}
 use Rattle.k_types.specs.Limits.{use_within, max_of, is_parent, path_within, path_above, path_of, with_maxima}
-use Rattle.k_base.proofs.Sums.{sum_same, sum-filter}
+use Rattle.k_types.proofs.Sums.{sum_same, sum-filter}
 
 -- the limit is hard and has the maximum 0
 pub record IsNothing (rows : List LimitRow) (c : ℕ) : Type 0 where

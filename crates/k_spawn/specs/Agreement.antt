@@ -1,5 +1,5 @@
 -- The translation and the tree machine, line by line.
-use Rattle.std.specs.Prelude.{◌≡◌, ℕ, ◌<◌, ◌+◌, ◌-◌, ◌||◌, not, nat_lt, Bool, IsTrue, IsFalse, List, [], ◌∷◌, ◌++◌, length, replicate, slice_index_or, None, Some}
+use Rattle.std.specs.Prelude.{◌≡◌, ℕ, ◌<◌, ◌+◌, ◌-◌, ◌||◌, not, nat_lt, Bool, IsTrue, IsFalse, List, [], ◌∷◌, ◌++◌, length, replicate, slice_index_or, None, Some, Ok}
 use Rattle.std.specs.List.{AllByRecursion}
 use Rattle.k_types.specs.declared.event.Event.{Event}
 use Rattle.k_types.specs.declared.event.Event.TheVariants.{Done, Ended, Absorbed, Closing}
@@ -21,7 +21,6 @@ use Rattle.k_spawn.specs.Scripts.{Script, family, limit_for}
 use Rattle.k_spawn.specs.Translation.{translation, operations_of_deed}
 use Rattle.k_spawn.specs.Judgement.{judgement}
 use Rattle.k_spawn.specs.Tree.{Tree, first_tree, trace_there, reply_in_tree, tree_after_lines}
-use Rattle.std.specs.Prelude.{Ok}
 
 -- the trace of the translation
 abbrev pub translated : Script → Trace

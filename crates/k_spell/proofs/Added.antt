@@ -9,7 +9,7 @@ use Rattle.k_types.specs.declared.names.LimitId.{LimitId}
 use Rattle.k_types.specs.declared.setup.LimitRow.{LimitRow}
 use Rattle.k_types.specs.Trace.{no_row, operations_of}
 use Rattle.k_types.specs.TraceRules.{IsTree}
-use Rattle.k_base.proofs.Lists.{if_some}
+use Rattle.k_types.proofs.Lists.{if_some}
 use Rattle.k_words.specs.Words.{Text, line_text, text_of}
 use Rattle.k_words.specs.Spaced.{spaced}
 use Rattle.k_report.proofs.LineLemmas.{joined, text_of-append}

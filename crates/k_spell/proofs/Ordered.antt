@@ -12,7 +12,7 @@ use Rattle.k_words.specs.Words.{Text, text_of}
 use Rattle.k_trace.specs.Named.{DeclaredNames, NamedTrace}
 use Rattle.k_trace.specs.declared.trace.Trace.{Trace}
 use Rattle.k_trace.specs.Meaning.{meaning_of}
-use Rattle.k_base.proofs.Lists.{get_or-set_cases}
+use Rattle.k_types.proofs.Lists.{get_or-set_cases}
 use Rattle.k_report.proofs.LineLemmas.{text_of-append}
 use Rattle.k_trace.specs.NamedOps.{IsNamedOp}
 use Rattle.k_trace.specs.Rules.{IsTrace}
@@ -20,7 +20,7 @@ use Rattle.k_trace.specs.Spelling.{after_first, first_line, operation_lines}
 use Rattle.k_spell.proofs.Added.{mapped_next}
 use Rattle.k_text.specs.Named.{AreNamed}
 use Rattle.k_report.proofs.Known.{named_op}
-use Rattle.k_frame.proofs.Sizes.{zeros_at}
+use Rattle.k_laws.proofs.Sizes.{zeros_at}
 
 -- The operations of each process behind those that it has done.
 abbrev pub behind : (ℕ → List Op) → List ℕ → ℕ → List Op

@@ -9,8 +9,8 @@ use Rattle.k_types.specs.Owners.{charge_by, shared, user}
 use Rattle.k_types.specs.State.{Sharing}
 use Rattle.k_types.specs.Totals.{total}
 use Rattle.k_types.specs.Numbers.{numbers_below}
-use Rattle.k_frame.proofs.Lists.{numbers_push}
-use Rattle.k_frame.proofs.Sums.{sum-filter, total_push}
+use Rattle.k_laws.proofs.Lists.{numbers_push}
+use Rattle.k_laws.proofs.Sums.{sum-filter, total_push}
 use Rattle.k_state.specs.Sums.{AreSums}
 
 pub neither : (b : Bool) → ◌≡◌ {A = ℕ} (cond b 0 0) 0

@@ -8,7 +8,7 @@ use Rattle.k_types.specs.Names.{name_lt}
 use Rattle.k_types.specs.Sound.{IsOrdered, IsOrderedFrom}
 use Rattle.k_types.specs.State.{Object}
 use Rattle.k_types.specs.Trace.{Trace, segment_count}
-use Rattle.k_frame.proofs.Ordered.{ordered_tail}
+use Rattle.k_laws.proofs.Ordered.{ordered_tail}
 use Rattle.k_state.specs.Machines.{IsDeclared}
 use Rattle.k_state.specs.Segments.{AreFrom, objects_below, objects_in}
 use Rattle.k_state.proofs.Split.{nothing_from}

@@ -8,7 +8,7 @@ use Rattle.k_types.specs.Names.{among, heap_eq}
 use Rattle.k_types.specs.Owners.{bytes_of, is_absorbed, owner_of, owner_of_process, owner_of_segment, owner_of_shared, phase_of, shared, user}
 use Rattle.k_types.specs.State.{State}
 use Rattle.k_types.specs.Trace.{Trace, process_count, segment_of}
-use Rattle.k_frame.proofs.NameTests.{heap_eq-true}
+use Rattle.k_laws.proofs.NameTests.{heap_eq-true}
 use Rattle.k_state.specs.Machines.{IsKept, Machine}
 use Rattle.k_state.proofs.Totals.{below, below_all, below_next, below_none, below_small}
 

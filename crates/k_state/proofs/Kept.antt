@@ -10,15 +10,15 @@ use Rattle.k_types.specs.Sound.{AreNames, AreNumbered}
 use Rattle.k_types.specs.State.{Content, ExitItem, Object, has}
 use Rattle.k_types.specs.Trace.{Trace}
 use Rattle.k_types.specs.Updates.{object_after_write, with_object}
-use Rattle.k_frame.proofs.Lists.{get_or-set_cases}
-use Rattle.k_frame.proofs.NameTests.{name_eq-true}
-use Rattle.k_frame.proofs.Objects.{has-placed, has-written, length-placed}
+use Rattle.k_laws.proofs.Lists.{get_or-set_cases}
+use Rattle.k_laws.proofs.NameTests.{name_eq-true}
+use Rattle.k_laws.proofs.Objects.{has-placed, has-written, length-placed}
 use Rattle.k_state.specs.Machines.{AreTotals, IsDeclared, IsKept, Machine}
 use Rattle.k_state.specs.Marks.{marked}
 use Rattle.k_state.proofs.Marked.{all_marked, length_marked}
 use Rattle.k_state.proofs.Placed.{has_marked, ordered_marked}
 use Rattle.k_state.proofs.Totals.{totals_placed, totals_written}
-use Rattle.k_frame.proofs.Ordered.{ordered-placed, ordered-written}
+use Rattle.k_laws.proofs.Ordered.{ordered-placed, ordered-written}
 
 pub kept_exits : (m : Machine) (totals : List ℕ) (exits : List ExitItem) → IsKept m totals → length exits ≤ length m.state.exits →
     IsKept (record m { state = record m.state { exits = exits } }) totals

@@ -18,4 +18,4 @@ pub mod Sums
 pub mod Totals
 pub mod Uses
 pub mod Views
-pub use Rattle.k_setup.proofs.Shapes
+pub use Rattle.k_laws.proofs.SetupShapes as Shapes

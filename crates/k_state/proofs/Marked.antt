@@ -3,7 +3,7 @@ use Rattle.std.proofs.Common.{◌≡◌, ℕ, ◌+◌, ◌<◌, ◌≤◌, inl, 
 use Rattle.std.proofs.lemmas.Bool.{cases_eq}
 use Rattle.std.proofs.lemmas.List.{append-nil, drop_more, take-set-le, take_more_set, drop-set-lt, length-set}
 use Rattle.std.proofs.lemmas.List.Edits.{swap_is}
-use Rattle.k_frame.proofs.Numbered.{drop_all}
+use Rattle.k_laws.proofs.Numbered.{drop_all}
 use Rattle.std.specs.List.{AllByRecursion, swap}
 use Rattle.k_types.specs.declared.names.Heap.{Heap}
 use Rattle.k_types.specs.State.{ExitItem}

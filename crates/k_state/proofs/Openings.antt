@@ -4,7 +4,7 @@ use Rattle.std.proofs.lemmas.List.{length-replicate}
 use Rattle.std.specs.List.{AllByRecursion}
 use Rattle.std.proofs.lemmas.Bool.{false≢true, or_cases}
 use Rattle.k_types.specs.Names.{directory, name_eq}
-use Rattle.k_frame.proofs.NameTests.{name_eq-true}
+use Rattle.k_laws.proofs.NameTests.{name_eq-true}
 use Rattle.k_types.specs.declared.names.Name.{Name}
 use Rattle.k_types.specs.declared.names.Phase.{Phase}
 use Rattle.k_types.specs.declared.names.Phase.TheVariants.{Unmade}
@@ -14,10 +14,10 @@ use Rattle.k_types.specs.Known.{IsKnownPhase}
 use Rattle.k_types.specs.Limits.{max_of}
 use Rattle.k_types.specs.State.{Content, ExitItem, Object, Refers, Sharing, State, opening}
 use Rattle.k_types.specs.Sound.{AreNumbered}
-use Rattle.k_frame.proofs.Sizes.{opening_sized}
+use Rattle.k_laws.proofs.Sizes.{opening_sized}
 use Rattle.k_types.specs.Trace.{Trace}
 use Rattle.k_state.specs.Machines.{IsPlain}
-use Rattle.k_setup.specs.Setups.{AreSetupRules}
+use Rattle.k_laws.specs.Setups.{AreSetupRules}
 
 unmade_known : (setup : Trace) (n : ℕ) → AllByRecursion (IsKnownPhase setup) (replicate n Unmade)
 unmade_known setup zero = tt

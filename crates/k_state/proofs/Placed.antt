@@ -7,10 +7,10 @@ use Rattle.k_types.specs.Names.{name_eq, name_lt}
 use Rattle.k_types.specs.State.{Content, Object, has, object_at}
 use Rattle.k_types.specs.Updates.{object_after_write, with_object}
 use Rattle.k_types.specs.Sound.{IsOrdered, IsOrderedFrom}
-use Rattle.k_frame.proofs.NameTests.{name_eq-true, name_lt_apart, name_lt_apart_back, name_lt_total, name_lt_trans}
+use Rattle.k_laws.proofs.NameTests.{name_eq-true, name_lt_apart, name_lt_apart_back, name_lt_total, name_lt_trans}
 use Rattle.k_state.specs.Marks.{marked}
 use Rattle.k_state.specs.Places.{IsPlace}
-use Rattle.k_frame.proofs.Ordered.{ordered_tail}
+use Rattle.k_laws.proofs.Ordered.{ordered_tail}
 
 -- what follows comes after
 pub before_all : (n : Name) (xs : List Object) (i : ℕ) (d : Object) → IsOrderedFrom n xs → i < length xs → name_lt n (get_or xs i d).name ≡ true

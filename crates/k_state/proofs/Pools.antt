@@ -11,7 +11,7 @@ use Rattle.k_types.specs.State.{Object}
 use Rattle.k_types.specs.Trace.{Trace, segment_count}
 use Rattle.k_state.specs.Machines.{IsDeclared}
 use Rattle.k_state.specs.Segments.{objects_below, objects_in}
-use Rattle.k_frame.proofs.Lists.{length-kept}
+use Rattle.k_laws.proofs.Lists.{length-kept}
 use Rattle.k_state.proofs.Borders.{below_all, below_next, below_none}
 use Rattle.k_state.proofs.Split.{are_in, nothing_in, whole_in}
 

@@ -18,10 +18,10 @@ use Rattle.k_types.specs.Replies.{faults, first_fault}
 use Rattle.k_types.specs.State.{State, Content, Refers, Holds, fresh, has_exit, has_share, opening}
 use Rattle.k_types.specs.Trace.{Trace, kinds_of, process_count}
 use Rattle.k_types.specs.Updates.{next_name, count_done, set_register, create, write, object_after_write, add_exit, open_scan, set_phase, add_share, keep_objects, keep_exits, keep_shares, close_scan, clear_registers, end_process, turn_exits, set_max, close}
-use Rattle.k_frame.proofs.Lists.{get_or-set_cases, length-kept}
-use Rattle.k_frame.proofs.Sizes.{zeros_at}
+use Rattle.k_laws.proofs.Lists.{get_or-set_cases, length-kept}
+use Rattle.k_laws.proofs.Sizes.{zeros_at}
 use Rattle.k_state.specs.Rooms.{HasRoom}
-use Rattle.k_frame.proofs.Objects.{length-placed}
+use Rattle.k_laws.proofs.Objects.{length-placed}
 
 -- each count but that of the operations done is one more at most, and that stays
 record IsNext (before after : State) : Type 0 where

@@ -12,9 +12,9 @@ use Rattle.k_types.specs.Sound.{AreNumbered, IsOrdered}
 use Rattle.k_types.specs.State.{Content, Object, has, object_at}
 use Rattle.k_types.specs.Trace.{Trace, segment_count}
 use Rattle.k_types.specs.Updates.{object_after_write, with_object}
-use Rattle.k_frame.proofs.NameTests.{by_segment_lt, by_serial_lt, name_eq-false, name_eq-true, name_eq_refl, name_lt_asym}
-use Rattle.k_frame.proofs.Objects.{has-kept, object_at-kept, written_name}
-use Rattle.k_frame.proofs.Ordered.{ordered_later, ordered_tail}
+use Rattle.k_laws.proofs.NameTests.{by_segment_lt, by_serial_lt, name_eq-false, name_eq-true, name_eq_refl, name_lt_asym}
+use Rattle.k_laws.proofs.Objects.{has-kept, object_at-kept, written_name}
+use Rattle.k_laws.proofs.Ordered.{ordered_later, ordered_tail}
 use Rattle.k_state.specs.Machines.{IsDeclared}
 use Rattle.k_state.specs.Marks.{marked}
 use Rattle.k_state.specs.Places.{IsNamedAt}

@@ -11,12 +11,12 @@ use Rattle.k_types.specs.State.{Content, Object}
 use Rattle.k_types.specs.Trace.{Trace, segment_count}
 use Rattle.k_types.specs.Updates.{object_after_write, with_object}
 use Rattle.std.proofs.Math.Seq.{take-append_seam}
-use Rattle.k_frame.proofs.Lists.{get_or-set_cases}
-use Rattle.k_frame.proofs.Objects.{written_name}
+use Rattle.k_laws.proofs.Lists.{get_or-set_cases}
+use Rattle.k_laws.proofs.Objects.{written_name}
 use Rattle.k_state.specs.Machines.{AreTotals, IsDeclared, segment_bytes}
 use Rattle.k_state.specs.Segments.{objects_in}
 use Rattle.k_state.proofs.Sums.{total_filter}
-use Rattle.k_frame.proofs.Bytes.{object_bytes-written}
+use Rattle.k_laws.proofs.Bytes.{object_bytes-written}
 
 -- what the object adds to the bytes of the segment
 abbrev pub share_of : Object → ℕ → ℕ

@@ -9,7 +9,7 @@ use Rattle.k_types.specs.Numbers.{numbers_below, numbers_from}
 use Rattle.k_types.specs.Trace.{Trace, limit_of, process_count, row_of}
 use Rattle.k_types.specs.TraceRules.{IsTree}
 use Rattle.k_types.specs.Limits.{direct_by, is_parent, max_of, use_within}
-use Rattle.k_frame.proofs.Sums.{same_below, sum-filter, zeros}
+use Rattle.k_laws.proofs.Sums.{same_below, sum-filter, zeros}
 use Rattle.k_state.specs.Sums.{AreSums}
 use Rattle.k_state.proofs.Added.{neither, sums_added, sums_same}
 use Rattle.k_state.proofs.Sums.{numbers_sum_left, numbers_sum_over}

@@ -7,4 +7,4 @@ pub mod Rooms
 pub mod Segments
 pub mod Sums
 pub mod Stills
-pub use Rattle.k_setup.specs.Setups
+pub use Rattle.k_laws.specs.Setups

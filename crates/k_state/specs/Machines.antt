@@ -8,7 +8,7 @@ use Rattle.k_types.specs.Owners.{object_bytes}
 use Rattle.k_types.specs.State.{Object, State}
 use Rattle.k_types.specs.Sound.{AreNames, IsSized}
 use Rattle.k_types.specs.Known.{IsKnownPhase}
-use Rattle.k_setup.specs.Setups.{AreSetupRules}
+use Rattle.k_laws.specs.Setups.{AreSetupRules}
 
 -- What a trace says before its operations, and a state.
 pub record Machine : Type 0 where

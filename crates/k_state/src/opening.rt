@@ -1,6 +1,6 @@
 //! The state with which a trace begins.
 ghost use Rattle.std.specs.Prelude.{◌≡◌, ◌≤◌, [], ◌∷◌, IfOk, None, map, replicate, length};
-ghost use Rattle.k_setup.specs.Setups.{AreSetupRules};
+ghost use Rattle.k_laws.specs.Setups.{AreSetupRules};
 ghost use Rattle.k_types.specs.Names.{directory};
 ghost use Rattle.k_types.specs.State.{opening, Refers};
 ghost use Rattle.k_types.specs.Trace.{trace_of};
@@ -64,7 +64,7 @@ pub(crate) fn copy_of(alloc: Global, setup: &Setup) -> Result<Setup, NoMemory>
 }
 
 // The directory alone, with so many fields.
-#[tactic(auto, using(k_base::proofs::Lists::map_replicate))]
+#[tactic(auto, using(k_types::proofs::Lists::map_replicate))]
 fn first_objects(alloc: Global, fields: usize) -> Result<Vec<PlainObject>, NoMemory>
     requires { fields ≤ 16 }
     ensures { IfOk result (λ v. v.items ≡ record { name = directory; ty = None; fields = replicate fields (Refers None) } ∷ []) }

@@ -149,7 +149,7 @@ impl PlainLists {
     }
 
     /// The phase of the shared heap; unmade where there is none of that number.
-    #[tactic(auto, using(k_setup::proofs::Shapes::phase_known))]
+    #[tactic(auto, using(k_laws::proofs::SetupShapes::phase_known))]
     pub fn phase(&self, shared: SharedId) -> Phase
         ensures exact { result ≡ phase_of self.now.state.phases shared.0 }
         ensures known { IsKnownPhase self.now.setup result }

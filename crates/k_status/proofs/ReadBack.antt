@@ -10,7 +10,7 @@ use Rattle.k_reports.proofs.Proper.{proper}
 use Rattle.k_reports.proofs.ReportLines.{history_of_text}
 use Rattle.k_reports.proofs.Spelled.{all_spelled}
 use Rattle.k_laws.proofs.Laws.{collections_free_nothing_live}
-use Rattle.k_order.proofs.Laws.{ended_histories_leave_what_the_directory_reaches}
+use Rattle.k_laws.proofs.OrderLaws.{ended_histories_leave_what_the_directory_reaches}
 use Rattle.k_status.specs.Reports.{IsReportOf}
 
 pub report_is : (t : NamedTrace) (history : List Event) → IsTrace t → IsLegalHistory t.trace history → IsComplete t.trace history → IsReportOf t history (report_text t.names t.trace history)

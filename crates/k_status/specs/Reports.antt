@@ -11,7 +11,7 @@ use Rattle.k_types.specs.Reach.{live_everywhere}
 use Rattle.k_types.specs.State.{has}
 use Rattle.k_types.specs.Steps.{IsLegalHistory, state_after}
 use Rattle.k_types.specs.Trace.{Trace}
-use Rattle.k_order.specs.Reclaimed.{IsReclaimed}
+use Rattle.k_laws.specs.Reclaimed.{IsReclaimed}
 use Rattle.k_words.specs.Words.{Text}
 use Rattle.k_trace.specs.Named.{NamedTrace}
 use Rattle.k_text.specs.Report.{report_text}

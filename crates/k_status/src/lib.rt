@@ -2,7 +2,7 @@
 //! written.
 //!
 //! What a status tells of the words, the source and the text is stated here once, for all commands that read a trace, with which texts are
-//! reports of a trace. The commands stand above, in `k_runner` and `k_answers`.
+//! reports of a trace. The commands stand above, in `k_run` and `k_answers`.
 #![tactic(auto)]
 
 mod arguments;

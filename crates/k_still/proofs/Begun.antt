@@ -12,7 +12,7 @@ use Rattle.k_types.specs.declared.setup.Setup.{Setup}
 use Rattle.k_types.specs.Trace.{Trace, operations_of, process_count, segment_count, segment_of}
 use Rattle.k_agree.specs.Rooms.{serial_room}
 use Rattle.k_bodies.specs.Bodies.{bodies_of}
-use Rattle.k_bounds.specs.Counts.{stores_in}
+use Rattle.k_laws.specs.Counts.{stores_in}
 use Rattle.k_cell.specs.Holdings.{HoldingsValue}
 use Rattle.k_heap.specs.declared.heap.CellRooms.{CellRooms}
 use Rattle.k_heap.specs.Heaps.{HeapRecord, opened_heap}
@@ -24,7 +24,7 @@ use Rattle.k_tie.specs.Values.{NoteValue, blank_note}
 use Rattle.k_still.specs.declared.beginning.Beginnings.{Beginnings}
 use Rattle.k_process.specs.declared.process.Process.{Process}
 use Rattle.k_still.specs.Opening.{AreBeginnings, ArePending, ArePendingShared, CanBegin, CanOpenHeap, CanOpenKernel, CanOpenProcess, HasBegun, HasOpenedHeap, HasOpenedKernel, HaveOpened, ProcessBegins}
-use Rattle.k_process.specs.Standing.{HeapsStand}
+use Rattle.k_process.specs.BetweenSteps.{HeapsStand}
 use Rattle.k_process.specs.Worlds.{WorldValue}
 use Rattle.k_still.proofs.Stands.{heap_stands, kernel_stands, shared_stands}
 use Rattle.k_process.proofs.Lists.{each_pushed}

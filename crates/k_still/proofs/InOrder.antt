@@ -3,7 +3,7 @@ use Rattle.std.proofs.Common.{◌≡◌, ℕ, suc, ◌+◌, ◌<◌, sym, ap, �
 use Rattle.std.proofs.lemmas.List.{get_or-map, length-map}
 use Rattle.std.proofs.lemmas.Option.{get_or_from_slice_get, slice_get_within}
 use Rattle.k_types.specs.Numbers.{numbers_below}
-use Rattle.k_base.proofs.Lists.{numbers_length, at_number}
+use Rattle.k_types.proofs.Lists.{numbers_length, at_number}
 use Rattle.k_still.specs.Opening.{Each}
 
 -- there is nothing in an empty list

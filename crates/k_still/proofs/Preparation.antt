@@ -10,7 +10,7 @@ use Rattle.k_types.specs.Numbers.{numbers_below}
 use Rattle.k_types.specs.Trace.{Trace, operations_of, process_count, segment_count, trace_of}
 use Rattle.k_types.specs.TraceRules.{KeepsRules}
 use Rattle.k_agree.specs.Rooms.{serial_room}
-use Rattle.k_base.proofs.Lists.{numbers_length}
+use Rattle.k_types.proofs.Lists.{numbers_length}
 use Rattle.k_bodies.specs.Bodies.{bodies_of}
 use Rattle.k_bodies.proofs.Operations.{own_operations}
 use Rattle.k_book.specs.Books.{BookRecord}
@@ -24,7 +24,7 @@ use Rattle.k_trace.specs.Rules.{IsTrace}
 use Rattle.k_process.specs.declared.heaps.Heaps.{Heaps}
 use Rattle.k_process.specs.declared.process.Process.{Process}
 use Rattle.k_process.specs.Heaps.{value_of}
-use Rattle.k_process.specs.Standing.{AllStand}
+use Rattle.k_process.specs.BetweenSteps.{AllStand}
 use Rattle.k_process.specs.Worlds.{WorldValue}
 use Rattle.k_still.specs.declared.beginning.Beginnings.{Beginnings}
 use Rattle.k_still.specs.declared.prepared.Prepared.{Prepared}

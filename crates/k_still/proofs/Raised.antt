@@ -14,10 +14,10 @@ use Rattle.k_types.specs.Steps.{in_range}
 use Rattle.k_types.specs.Totals.{total}
 use Rattle.k_types.specs.Trace.{Trace, operations_of, process_count}
 use Rattle.k_types.specs.TraceRules.{KeepsRules}
-use Rattle.k_base.proofs.Numbered.{drop_all}
-use Rattle.k_base.proofs.Sums.{total_at_most}
-use Rattle.k_bounds.specs.Counts.{is_share_of, is_store, stores_in}
-use Rattle.k_bounds.proofs.Counting.{count_low}
+use Rattle.k_types.proofs.Numbered.{drop_all}
+use Rattle.k_types.proofs.Sums.{total_at_most}
+use Rattle.k_laws.specs.Counts.{is_share_of, is_store, stores_in}
+use Rattle.k_laws.proofs.Counting.{count_low}
 use Rattle.k_agree.specs.Rooms.{exit_room}
 use Rattle.k_still.proofs.InOrder.{drop_read}
 use Rattle.k_still.proofs.Tables.{exit_room_low, front_low, front_next, over_lists, own_few}

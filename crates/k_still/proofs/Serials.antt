@@ -5,7 +5,7 @@ use Rattle.std.specs.List.{AllByRecursion, list_all}
 use Rattle.std.proofs.lemmas.Bool.{and_parts, cases_eq}
 use Rattle.std.proofs.lemmas.Grind.{get_or-set_at}
 use Rattle.std.proofs.lemmas.List.{get_or-set_other, length-replicate, length-set}
-use Rattle.k_frame.proofs.Sizes.{zeros_at}
+use Rattle.k_laws.proofs.Sizes.{zeros_at}
 use Rattle.std.proofs.lemmas.Option.{get_or_from_slice_get, slice_get_within}
 use Rattle.k_types.specs.declared.op.Op.{Op}
 use Rattle.k_types.specs.declared.op.Op.TheVariants.{New, KNew, SNew}
@@ -15,14 +15,14 @@ use Rattle.k_types.specs.Steps.{in_range}
 use Rattle.k_types.specs.Totals.{total}
 use Rattle.k_types.specs.Trace.{Trace, operations_of, process_count, segment_count}
 use Rattle.k_types.specs.TraceRules.{KeepsRules}
-use Rattle.k_base.proofs.Numbered.{drop_all}
-use Rattle.k_base.proofs.Sums.{total_at_most}
-use Rattle.k_bounds.specs.Counts.{allocates_in, one_if}
-use Rattle.k_bounds.proofs.Counting.{count_low, one_if_low}
+use Rattle.k_types.proofs.Numbered.{drop_all}
+use Rattle.k_types.proofs.Sums.{total_at_most}
+use Rattle.k_laws.specs.Counts.{allocates_in, one_if}
+use Rattle.k_laws.proofs.Counting.{count_low, one_if_low}
 use Rattle.k_still.proofs.InOrder.{drop_read}
 use Rattle.k_still.proofs.Tables.{all_few}
 use Rattle.k_still.specs.Opening.{AreSerialRooms, CanCount, counted, segment_given, with_one_more}
-use Rattle.k_base.proofs.Totals.{total_more, total_within}
+use Rattle.k_types.proofs.Totals.{total_more, total_within}
 
 -- it is that segment
 abbrev is_given : Option ℕ → ℕ → Bool

@@ -6,12 +6,12 @@ use Rattle.k_types.specs.Numbers.{numbers_below, numbers_from}
 use Rattle.k_types.specs.Totals.{total}
 use Rattle.k_types.specs.Trace.{Trace, operations_of, process_count}
 use Rattle.k_types.specs.TraceRules.{KeepsRules}
-use Rattle.k_base.proofs.Sums.{total_push, total_at_most}
-use Rattle.k_bounds.specs.Counts.{stores_in}
-use Rattle.k_bounds.proofs.Counting.{count_low}
+use Rattle.k_types.proofs.Sums.{total_push, total_at_most}
+use Rattle.k_laws.specs.Counts.{stores_in}
+use Rattle.k_laws.proofs.Counting.{count_low}
 use Rattle.k_agree.specs.Rooms.{event_room, exit_room, over_processes}
-use Rattle.k_known.proofs.Counted.{all_ordered}
-use Rattle.k_base.proofs.Totals.{total_within}
+use Rattle.k_laws.proofs.KnownCounted.{all_ordered}
+use Rattle.k_types.proofs.Totals.{total_within}
 
 shifted : (f : ℕ → ℕ) (first n : ℕ) → total f (numbers_from (suc first) n) ≡ total (λ p. f (suc p)) (numbers_from first n)
 shifted f first zero = refl

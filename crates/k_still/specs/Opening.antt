@@ -31,7 +31,7 @@ use Rattle.k_process.specs.declared.process.Process.{Process}
 use Rattle.k_still.specs.declared.prepared.Prepared.{Prepared}
 use Rattle.k_still.specs.declared.first.FirstCells.{FirstCells}
 use Rattle.k_process.specs.Heaps.{HeapsValue, value_of}
-use Rattle.k_process.specs.Standing.{AllStand, ArePublished, ProcessStands, ProcessesStand}
+use Rattle.k_process.specs.BetweenSteps.{AllStand, ArePublished, ProcessStands, ProcessesStand}
 use Rattle.k_process.specs.Worlds.{WorldValue}
 
 -- it holds of each element at its place

@@ -2,7 +2,7 @@
 ghost use Rattle.std.specs.Prelude.{◌≡◌, [], IfOk};
 ghost use Rattle.k_still.specs.Opening.{ArePending, ArePendingShared, CanBegin, CanOpenHeap, CanOpenHeaps, CanOpenKernel, CanOpenProcess, HasBegun, HasOpenedHeap, HasOpenedKernel, HaveOpened, HaveOpenedHeaps, ProcessBegins};
 ghost use Rattle.k_process.specs.Heaps.{value_of};
-ghost use Rattle.k_process.specs.Standing.{HeapsStand};
+ghost use Rattle.k_process.specs.BetweenSteps.{HeapsStand};
 ghost use Rattle.k_process.specs.Worlds.{WorldValue};
 
 use crate::prepared::Prepared;

@@ -1,6 +1,6 @@
 //! How much the tables of a trace's cells may have to hold.
 ghost use Rattle.std.specs.Prelude.{◌≡◌, ◌+◌, ◌<◌, ◌≤◌, ◌∷◌, ◌^◌, IfOk, IfSome, length, replicate, slice_index_or};
-ghost use Rattle.k_bounds.specs.Counts.{is_store, stores_in};
+ghost use Rattle.k_laws.specs.Counts.{is_store, stores_in};
 ghost use Rattle.k_agree.specs.Rooms.{event_room, exit_room};
 ghost use Rattle.k_trace.specs.Meaning.{meaning_of};
 ghost use Rattle.k_trace.specs.Rules.{IsTrace};

@@ -4,11 +4,11 @@ use Rattle.k_types.specs.declared.names.Name.{Name}
 use Rattle.k_types.specs.declared.names.Heap.{Heap}
 use Rattle.k_types.specs.Names.{name_eq, name_lt, name_among, heap_eq}
 use Rattle.k_types.specs.State.{ExitItem, has_exit}
-use Rattle.k_base.proofs.NameTests.{name_lt_trans, name_lt_total, name_eq_refl, name_lt_apart_back, name_eq-true}
-use Rattle.k_base.proofs.Tests.{or_swap}
+use Rattle.k_types.proofs.NameTests.{name_lt_trans, name_lt_total, name_eq_refl, name_lt_apart_back, name_eq-true}
+use Rattle.k_types.proofs.Tests.{or_swap}
 use Rattle.k_text.proofs.NameOrder.{lt_irrefl}
 use Rattle.k_text.specs.Shown.{with_name, in_order, exits_of, AreRising, AreRisingFrom}
-use Rattle.k_base.proofs.Exits.{targets_among}
+use Rattle.k_types.proofs.Exits.{targets_among}
 
 -- ---- putting a name in its place
 

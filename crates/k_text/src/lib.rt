@@ -2,9 +2,11 @@
 //!
 //! A [`View`] shows the trace, the history and the last state of a run. What is shown has one text, which the definitions give;
 //! `k_report` writes it. The laws tell what of a trace a report reads and by what its exit items are known, and the reports of
-//! worked traces are computed by the definitions.
+//! worked traces are computed by the definitions. `proofs/` also has what is shown of a sound state, for whoever shows one: each name
+//! lies in a segment of the trace, a process is charged less than 2^40 bytes, and the targets of a heap's exit items are its exits
+//! in order.
 //!
-//! Below stand `k_types` with the machine, and `k_words` and `k_trace` with the words and names of the texts.
+//! Below stand `k_types` with the machine, `k_laws` with its laws, and `k_words` and `k_trace` with the words and names of the texts.
 #![tactic(auto)]
 
 mod laws;

@@ -5,15 +5,15 @@ use native.Mathlib.Decide.{ℕ_discrete}
 use mathlib.Core.Option.{some, some-injective, some-ne-none}
 use lib.ListN.{get_elem?}
 use Rattle.atomic_table.specs.Seated.{TableId}
-use Rattle.k_base.specs.k_types.Numbers.{numbers_from}
+use Rattle.k_types.specs.Numbers.{numbers_from}
 use Rattle.k_tie.specs.declared.view.CellView.{CellView}
 use Rattle.k_tie.specs.declared.view.View.{View}
 use Rattle.k_tie.specs.declared.view.View.TheVariants.{Journal, Note}
 use Rattle.k_tie.specs.Rule.{CellsFit, ViewFits, times_among, KeepsRule}
 use Rattle.k_tie.specs.Steps.{blank_cell, opening_view, after_give, note_as_held}
 use Rattle.k_tie.specs.Values.{NoteValue, blank_note, note_value}
-use Rattle.k_base.proofs.Sums.{one_if_same-same, one_if_same-other}
-use Rattle.k_base.specs.Counts.{one_if_same}
+use Rattle.k_types.proofs.Sums.{one_if_same-same, one_if_same-other}
+use Rattle.k_types.specs.Counts.{one_if_same}
 
 -- so many blank cells, from the first number up
 abbrev pub blank_cells : ℕ → ℕ → List CellView

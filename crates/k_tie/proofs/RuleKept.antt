@@ -1,21 +1,21 @@
 -- Each step keeps the rule.
 use Rattle.std.proofs.Common.{◌≡◌, ◌≢◌, ℕ, ◌+◌, ◌%◌, ◌^◌, ◌<◌, List, [], ◌∷◌, ◌++◌, length, replicate, set, refl, sym, ap, ◌∙◌, subst, ⊎_elim, arith, length-append}
 use Rattle.std.specs.Prelude.{slice_index}
-use Rattle.k_base.specs.k_types.Complete.{IsPrefixOf}
+use Rattle.k_types.specs.Complete.{IsPrefixOf}
 use mathlib.Core.Option.{some}
 use lib.ListN.{get_elem?}
 use Rattle.atomic_table.specs.Table.{State, Me, keeps, Allows, Splits, Joins}
 use Rattle.atomic_table.proofs.Lists.{at_set, at_snoc, set_again}
-use Rattle.k_base.specs.k_types.declared.event.Event.{Event}
+use Rattle.k_types.specs.declared.event.Event.{Event}
 use Rattle.k_tie.specs.declared.view.CellView.{CellView}
 use Rattle.k_tie.specs.declared.view.View.{View}
 use Rattle.k_tie.specs.declared.view.View.TheVariants.{Journal, Note, Spent}
 use Rattle.k_tie.specs.Rule.{total_of, CellFits, CellsFit, ViewFits, times_among, times_in, one_if_journal, KeepsRule, Holds}
 use Rattle.k_tie.specs.Steps.{cell_view, after_give, note_as_held, note_of_whole, after_touch, note_touched, after_take, after_append, IsToldOf}
 use Rattle.k_tie.proofs.Totals.{one_if_same-swap, prefix_longer, total_apart, total_touched}
-use Rattle.k_base.proofs.Places.{total_set_there, total_one, total_two}
-use Rattle.k_base.proofs.Sums.{total_push, one_if_same-same}
-use Rattle.k_base.specs.Counts.{one_if_same}
+use Rattle.k_types.proofs.Places.{total_set_there, total_one, total_two}
+use Rattle.k_types.proofs.Sums.{total_push, one_if_same-same}
+use Rattle.k_types.specs.Counts.{one_if_same}
 
 -- one view changes
 pub kept_set : (ws : List ℕ) (vs : List View) (k : KeepsRule ws vs) (l : List Event) (t : List ℕ) (id : ℕ) (v w : View)

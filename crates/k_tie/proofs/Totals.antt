@@ -1,11 +1,11 @@
 -- Of one number and of two, and of longer lists.
 use Rattle.std.proofs.Common.{◌≡◌, ◌≢◌, ℕ, zero, suc, ◌+◌, List, ◌++◌, replicate, refl, sym, ap, ◌∙◌, arith, append_assoc, subst}
 use Rattle.k_tie.specs.Rule.{total_of}
-use Rattle.k_base.specs.k_types.Complete.{IsPrefixOf}
+use Rattle.k_types.specs.Complete.{IsPrefixOf}
 use mathlib.Core.Logic.{dite}
 use native.Mathlib.Decide.{ℕ_discrete}
-use Rattle.k_base.proofs.Sums.{one_if_same-same, one_if_same-other}
-use Rattle.k_base.specs.Counts.{one_if_same}
+use Rattle.k_types.proofs.Sums.{one_if_same-same, one_if_same-other}
+use Rattle.k_types.specs.Counts.{one_if_same}
 
 pub prefix_longer : {A : Type 0} (xs ys zs : List A) → IsPrefixOf xs ys → IsPrefixOf xs (ys ++ zs)
 prefix_longer xs ys zs p = (p.0 ++ zs, sym (append_assoc xs p.0 zs) ∙ ap (λ w. w ++ zs) p.1)

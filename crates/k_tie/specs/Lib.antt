@@ -1,4 +1,4 @@
 pub mod Rule
 pub mod Steps
 pub mod Values
-pub use Rattle.k_base.specs as k_base
+pub use Rattle.k_types.specs as k_types

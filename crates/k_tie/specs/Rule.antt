@@ -5,13 +5,13 @@ use Rattle.std.specs.Prelude.{◌≡◌, ℕ, ◌≤◌, List, [], ◌∷◌, le
 use mathlib.Core.Option.{some}
 use lib.ListN.{get_elem?}
 use Rattle.atomic_table.specs.Table.{State}
-use Rattle.k_base.specs.k_types.Totals.{total}
-use Rattle.k_base.specs.k_types.Complete.{IsPrefixOf}
-use Rattle.k_base.specs.k_types.declared.event.Event.{Event}
+use Rattle.k_types.specs.Totals.{total}
+use Rattle.k_types.specs.Complete.{IsPrefixOf}
+use Rattle.k_types.specs.declared.event.Event.{Event}
 use Rattle.k_tie.specs.declared.view.CellView.{CellView}
 use Rattle.k_tie.specs.declared.view.View.{View}
 use Rattle.k_tie.specs.declared.view.View.TheVariants.{Journal, Note, Spent}
-use Rattle.k_base.specs.Counts.{one_if_same}
+use Rattle.k_types.specs.Counts.{one_if_same}
 
 -- a cell's total: how many of the touches are of the cell
 abbrev pub total_of : List ℕ → ℕ → ℕ

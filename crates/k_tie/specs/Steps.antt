@@ -9,8 +9,8 @@
 --           total, and that the cells in hand are distinct
 use Rattle.std.specs.Prelude.{◌≡◌, ℕ, ◌+◌, ◌≤◌, List, [], ◌∷◌, ◌++◌, map, replicate}
 use Rattle.atomic_table.specs.Table.{Step, Me}
-use Rattle.k_base.specs.k_types.Numbers.{numbers_below}
-use Rattle.k_base.specs.k_types.declared.event.Event.{Event}
+use Rattle.k_types.specs.Numbers.{numbers_below}
+use Rattle.k_types.specs.declared.event.Event.{Event}
 use Rattle.k_tie.specs.declared.view.CellView.{CellView}
 use Rattle.k_tie.specs.declared.view.View.{View}
 use Rattle.k_tie.specs.declared.view.View.TheVariants.{Journal, Note, Spent}

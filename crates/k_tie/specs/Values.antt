@@ -1,7 +1,7 @@
 -- What contracts see of the journal's seat and of a note.
 use Rattle.std.specs.Prelude.{ℕ, List, []}
 use Rattle.atomic_table.specs.Seated.{TableId}
-use Rattle.k_base.specs.k_types.declared.event.Event.{Event}
+use Rattle.k_types.specs.declared.event.Event.{Event}
 use Rattle.k_tie.specs.declared.view.View.{View}
 use Rattle.k_tie.specs.declared.view.View.TheVariants.{Journal, Note, Spent}
 use Rattle.k_tie.specs.Steps.{cell_view}

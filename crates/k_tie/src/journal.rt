@@ -1,6 +1,6 @@
 //! The journal's seat, which alone adds events and sends notes out.
 ghost use Rattle.std.specs.Prelude.{◌≡◌, ◌+◌, ◌-◌, ◌^◌, ◌<◌, ◌≢◌, [], ◌∷◌, ◌++◌, length, replicate};
-ghost use Rattle.k_base.specs.k_types.Complete.{IsPrefixOf};
+ghost use Rattle.k_types.specs.Complete.{IsPrefixOf};
 ghost use Rattle.k_tie.specs.Rule.{total_of};
 
 use crate::note::Note;
@@ -11,7 +11,7 @@ use crate::steps::{
 use crate::tie::Tie;
 use crate::view::View;
 use atomic_table::Seat;
-use k_base::Event;
+use k_types::Event;
 use std::marker::{Brand, Model};
 use std::mem::replace;
 use std::slice::from_ref;

@@ -93,7 +93,7 @@ impl Play<(), View> for ReadCells {
 /// The events that an append adds.
 pub trait AppendedEvents {
     ghost use Rattle.std.specs.Prelude.{List};
-    ghost use Rattle.k_base.specs.k_types.declared.event.Event.{Event};
+    ghost use Rattle.k_types.specs.declared.event.Event.{Event};
 
     ghost events: { List Event };
 }

@@ -1,6 +1,6 @@
 //! The table of the journal's word, and the seat and notes that are made with it.
 ghost use Rattle.std.specs.Prelude.{◌≡◌, map, IfOk};
-ghost use Rattle.k_base.specs.k_types.Numbers.{numbers_below};
+ghost use Rattle.k_types.specs.Numbers.{numbers_below};
 ghost use Rattle.k_tie.specs.Values.{empty_journal, blank_note};
 
 use crate::journal::JournalSeat;
@@ -8,7 +8,7 @@ use crate::note::Note;
 use crate::steps::{GiveNote, JournalRule};
 use crate::view::View;
 use atomic_table::Table;
-use k_base::NoMemory;
+use k_types::NoMemory;
 use std::alloc::Global;
 use std::marker::Model;
 

@@ -1,5 +1,5 @@
 //! What the seats of the journal's table know.
-use k_base::Event;
+use k_types::Event;
 use std::collections::LinkedList;
 
 /// What is known of a cell: a prefix of the journal, and how many events of the whole journal touch the cell. No value of

@@ -1,16 +1,16 @@
 -- What is told of a run beside a watcher.
 use Rattle.std.proofs.Common.{◌≡◌, ℕ, List, ◌++◌, Ok, refl, subst, sym}
 use Rattle.k_types.specs.Bounds.{most_trace_bytes}
-use Rattle.k_runner.specs.k_run.k_outcome.Ends.{EndValue, journal_of}
+use Rattle.k_run.specs.k_outcome.Ends.{EndValue, journal_of}
 use Rattle.k_status.specs.declared.status.Status.TheVariants.{Good}
 use Rattle.k_status.specs.Ends.{Input}
 use Rattle.k_status.specs.Telling.{TellsOfBytes, TellsOfSource}
 use Rattle.k_answers.specs.Reports.{IsWatchedReport}
 use Rattle.k_answers.specs.Samples.{samples_text}
-use Rattle.k_runner.specs.k_run.k_watch.declared.sample.Sample.{Sample}
-use Rattle.k_runner.specs.Runs.{IsNamedEnd, text_of}
+use Rattle.k_run.specs.k_watch.declared.sample.Sample.{Sample}
+use Rattle.k_run.specs.Commands.{IsNamedEnd, text_of}
 use Rattle.k_top.specs.Runs.{HasWatchedRun}
-use Rattle.k_runner.proofs.Reports.{named_in_run, report_by_run}
+use Rattle.k_run.proofs.Reports.{named_in_run, report_by_run}
 
 -- What the end of a run beside a watcher shows has a name.
 pub watch_named : (input : Input) (count : ℕ) (end : EndValue) (samples : List Sample) → HasWatchedRun input count end samples → IsNamedEnd end

@@ -3,7 +3,7 @@ use Rattle.std.proofs.Common.{List, Result, Ok, Err, refl, subst}
 use Rattle.std.specs.Prelude.{IfOk, IfErr}
 use Rattle.k_types.specs.declared.event.Event.{Event}
 use Rattle.k_types.specs.Bounds.{most_trace_bytes}
-use Rattle.k_runner.specs.k_run.k_outcome.Ends.{EndValue}
+use Rattle.k_run.specs.k_outcome.Ends.{EndValue}
 use Rattle.k_trace.specs.Named.{NamedTrace}
 use Rattle.k_status.specs.declared.run_error.RunError.{RunError}
 use Rattle.k_status.specs.declared.run_error.RunError.TheVariants.{NoMemory, Unread, Bad}
@@ -11,10 +11,10 @@ use Rattle.k_status.specs.Ends.{Input}
 use Rattle.k_answers.specs.Parts.{TellsOfScript}
 use Rattle.k_status.specs.Telling.{TellsOfSource}
 use Rattle.k_status.specs.Reports.{IsFileReport, IsReportOf}
-use Rattle.k_runner.specs.Runs.{IsNamedEnd, status_of, text_of}
+use Rattle.k_run.specs.Commands.{IsNamedEnd, status_of, text_of}
 use Rattle.k_answers.specs.Scripts.{HasCause}
 use Rattle.k_top.specs.Scripts.{HasReplayed}
-use Rattle.k_runner.proofs.Reports.{named_in_run, report_by_run}
+use Rattle.k_run.proofs.Reports.{named_in_run, report_by_run}
 
 -- What the end of a run shows has a name.
 pub script_named : (input : Input) (r : Result EndValue RunError) → IfOk r (HasReplayed input) → IfOk r IsNamedEnd

@@ -8,9 +8,9 @@ use Rattle.k_types.specs.Trace.{Trace}
 use Rattle.k_words.specs.Words.{Text}
 use Rattle.k_trace.specs.Named.{DeclaredNames, NamedTrace}
 use Rattle.k_answers.specs.Setups.{setup_of}
-use Rattle.k_runner.specs.k_run.k_outcome.Ends.{EndValue, journal_of, last_state}
-use Rattle.k_runner.proofs.RunSetups.{same_state}
-use Rattle.k_runner.specs.k_run.Runs.{IsRunOf}
+use Rattle.k_run.specs.k_outcome.Ends.{EndValue, journal_of, last_state}
+use Rattle.k_run.proofs.Setups.{same_state}
+use Rattle.k_run.specs.Runs.{IsRunOf}
 use Rattle.k_types.specs.FileOrder.{file_order}
 use Rattle.k_trace.specs.Rules.{IsTrace}
 use Rattle.k_answers.specs.k_audit.Snapshots.{snapshot_text}
@@ -21,7 +21,7 @@ use Rattle.k_status.specs.declared.status.Status.TheVariants.{Good}
 use Rattle.k_status.specs.Ends.{Input}
 use Rattle.k_status.specs.Telling.{TellsOfBytes, TellsOfSource}
 use Rattle.k_answers.specs.Reports.{IsFileSnapshot}
-use Rattle.k_runner.specs.Runs.{HasReplayed}
+use Rattle.k_run.specs.Commands.{HasReplayed}
 use Rattle.k_answers.proofs.Ranges.{snapshot_found}
 
 -- The snapshot of what the end of a run shows.

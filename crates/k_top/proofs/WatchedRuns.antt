@@ -3,13 +3,13 @@ use Rattle.std.proofs.Common.{◌≡◌, ℕ, ◌+◌, ◌≤◌, List, [], ◌�
 use Rattle.std.proofs.lemmas.List.{length_push}
 use Rattle.atomic_table.specs.Seated.{TableId}
 use Rattle.k_trace.specs.Named.{NamedTrace}
-use Rattle.k_runner.specs.k_run.k_outcome.Ends.{EndValue, journal_of}
-use Rattle.k_runner.specs.k_run.k_watch.declared.sample.Sample.{Sample}
-use Rattle.k_runner.specs.k_run.k_watch.Samples.{AllBelow, IsRising}
-use Rattle.k_runner.specs.k_run.k_watch.Shown.{AllTellOf, HasWatched}
-use Rattle.k_runner.specs.k_run.k_watch.Values.{WatcherValue}
-use Rattle.k_runner.proofs.SampleLists.{rising_one_more}
-use Rattle.k_runner.specs.k_run.Runs.{IsRunOf}
+use Rattle.k_run.specs.k_outcome.Ends.{EndValue, journal_of}
+use Rattle.k_run.specs.k_watch.declared.sample.Sample.{Sample}
+use Rattle.k_run.specs.k_watch.Samples.{AllBelow, IsRising}
+use Rattle.k_run.specs.k_watch.Shown.{AllTellOf, HasWatched}
+use Rattle.k_run.specs.k_watch.Values.{WatcherValue}
+use Rattle.k_run.proofs.SampleLists.{rising_one_more}
+use Rattle.k_run.specs.Runs.{IsRunOf}
 use Rattle.k_top.specs.Watched.{HasTaken, IsWatchedRunOf}
 
 -- one sample more

@@ -3,13 +3,13 @@ use Rattle.std.proofs.Common.{◌∙◌, ℕ, ◌<◌, ◌≤◌, length, ap, su
 use Rattle.k_types.specs.State.{State}
 use Rattle.k_types.specs.Steps.{state_after}
 use Rattle.k_types.specs.Trace.{Trace}
-use Rattle.k_runner.specs.k_run.k_outcome.Ends.{EndValue, journal_of, last_state}
-use Rattle.k_runner.proofs.RunSetups.{same_state}
+use Rattle.k_run.specs.k_outcome.Ends.{EndValue, journal_of, last_state}
+use Rattle.k_run.proofs.Setups.{same_state}
 use Rattle.k_answers.specs.k_big.Summary.{HasSmallCharges, summary_over}
 use Rattle.k_answers.specs.k_big.Workload.{big_trace, most_objects}
 use Rattle.k_answers.proofs.Charges.{charges_small}
 use Rattle.k_answers.proofs.Rules.{big_is_trace}
-use Rattle.k_runner.specs.k_run.Runs.{IsRunOf}
+use Rattle.k_run.specs.Runs.{IsRunOf}
 use Rattle.k_answers.specs.Reports.{IsSummaryOf}
 
 -- The end of a run shows limits.

@@ -7,8 +7,8 @@ use Rattle.k_trace.specs.Named.{DeclaredNames, NamedTrace}
 use Rattle.k_trace.specs.Rules.{IsTrace}
 use Rattle.k_answers.specs.Begun.{IsBegun}
 use Rattle.k_answers.proofs.Rooms.{few_events}
-use Rattle.k_runner.specs.k_run.k_outcome.Ends.{EndValue, IsEnd, journal_of}
-use Rattle.k_runner.specs.k_run.Runs.{IsRunOf}
+use Rattle.k_run.specs.k_outcome.Ends.{EndValue, IsEnd, journal_of}
+use Rattle.k_run.specs.Runs.{IsRunOf}
 use Rattle.k_answers.specs.Setups.{AreSetupRules}
 use Rattle.k_answers.specs.k_work.Crediting.{AreSmall}
 use Rattle.k_answers.specs.k_work.Lines.{work_text}
@@ -20,9 +20,9 @@ use Rattle.k_status.specs.Ends.{Input}
 use Rattle.k_status.specs.Telling.{TellsOfBytes, TellsOfSource}
 use Rattle.k_answers.specs.Reports.{IsWorkReport}
 use Rattle.k_status.specs.Readings.{GaveTrace}
-use Rattle.k_runner.specs.Runs.{text_of}
+use Rattle.k_run.specs.Commands.{text_of}
 use Rattle.k_top.specs.Runs.{CanBeWritten, HasWorkedRun}
-use Rattle.k_runner.proofs.Reports.{named_in_run, report_by_run}
+use Rattle.k_run.proofs.Reports.{named_in_run, report_by_run}
 
 -- The journal of a run has fewer events than a table of its work has room for.
 pub run_few : (t : NamedTrace) (end : EndValue) → IsTrace t → IsRunOf t end → length (journal_of end) < 2 ^ 29

@@ -1,15 +1,15 @@
 -- The run of the trace that the source gave, beside a watcher or with its work.
 use Rattle.std.specs.Prelude.{◌≡◌, ℕ, ◌≤◌, List, length}
 use Rattle.k_trace.specs.Named.{NamedTrace}
-use Rattle.k_runner.specs.k_run.k_outcome.Ends.{EndValue, journal_of}
-use Rattle.k_runner.specs.k_run.Runs.{IsRunOf}
+use Rattle.k_run.specs.k_outcome.Ends.{EndValue, journal_of}
+use Rattle.k_run.specs.Runs.{IsRunOf}
 use Rattle.k_top.specs.Watched.{IsWatchedRunOf}
-use Rattle.k_runner.specs.k_run.k_watch.declared.sample.Sample.{Sample}
+use Rattle.k_run.specs.k_watch.declared.sample.Sample.{Sample}
 use Rattle.k_answers.specs.k_work.Crediting.{AreSmall}
 use Rattle.k_answers.specs.k_work.Tables.{Work, work_of}
 use Rattle.k_status.specs.Ends.{Input}
 use Rattle.k_status.specs.Readings.{GaveTrace}
-use Rattle.k_runner.specs.Runs.{IsNamedEnd}
+use Rattle.k_run.specs.Commands.{IsNamedEnd}
 
 -- The source gave a trace, and this is the end of a run of it beside a watcher, which took so many samples and one more.
 pub record HasWatchedRun (input : Input) (count : ℕ) (end : EndValue) (samples : List Sample) : Type 0 where

@@ -2,8 +2,8 @@
 use Rattle.std.specs.Prelude.{◌≡◌}
 use Rattle.k_types.specs.FileOrder.{file_order}
 use Rattle.k_trace.specs.Named.{NamedTrace}
-use Rattle.k_runner.specs.k_run.k_outcome.Ends.{EndValue, journal_of}
-use Rattle.k_runner.specs.k_run.Runs.{IsRunOf}
+use Rattle.k_run.specs.k_outcome.Ends.{EndValue, journal_of}
+use Rattle.k_run.specs.Runs.{IsRunOf}
 use Rattle.k_status.specs.Ends.{Input}
 use Rattle.k_answers.specs.Scripts.{GaveScript}
 

@@ -2,13 +2,13 @@
 use Rattle.std.specs.Prelude.{◌≡◌, ℕ, ◌+◌, ◌≤◌, List, length}
 use Rattle.atomic_table.specs.Seated.{TableId}
 use Rattle.k_trace.specs.Named.{NamedTrace}
-use Rattle.k_runner.specs.k_run.k_outcome.Ends.{EndValue, journal_of}
-use Rattle.k_runner.specs.k_run.k_watch.declared.sample.Sample.{Sample}
-use Rattle.k_runner.specs.k_run.k_watch.Numbers.{numbers_after}
-use Rattle.k_runner.specs.k_run.k_watch.Samples.{IsLast, IsRising}
-use Rattle.k_runner.specs.k_run.k_watch.Shown.{AllTellOf}
-use Rattle.k_runner.specs.k_run.k_watch.Values.{WatcherValue}
-use Rattle.k_runner.specs.k_run.Runs.{IsRunOf}
+use Rattle.k_run.specs.k_outcome.Ends.{EndValue, journal_of}
+use Rattle.k_run.specs.k_watch.declared.sample.Sample.{Sample}
+use Rattle.k_run.specs.k_watch.Numbers.{numbers_after}
+use Rattle.k_run.specs.k_watch.Samples.{IsLast, IsRising}
+use Rattle.k_run.specs.k_watch.Shown.{AllTellOf}
+use Rattle.k_run.specs.k_watch.Values.{WatcherValue}
+use Rattle.k_run.specs.Runs.{IsRunOf}
 
 -- the watcher is of the cell and has taken so many samples, which the list has too, in which the numbers of events never fall; and there is
 -- room for one more

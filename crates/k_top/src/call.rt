@@ -11,7 +11,7 @@ use crate::working::work_file;
 use crate::workload::run_workload;
 use k_answers::{Command, command_of};
 use k_io::{Gate, Sink, Source};
-use k_runner::run_file;
+use k_run::run_file;
 use k_status::Status;
 use std::alloc::Global;
 use std::sync::Wait;

@@ -9,7 +9,7 @@ use crate::snapping::snap_file;
 use crate::spawning::tree_file;
 use k_answers::{Command, audit_file, check_file, command_of, write_usage};
 use k_io::{Sink, Source};
-use k_runner::replay_file;
+use k_run::replay_file;
 use k_status::Status;
 use std::alloc::Global;
 

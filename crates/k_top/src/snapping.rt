@@ -6,7 +6,7 @@ ghost use Rattle.k_answers.specs.Reports.{IsFileSnapshot};
 
 use k_answers::snapshot;
 use k_io::{Sink, Source};
-use k_runner::{replay_source, tell_end};
+use k_run::{replay_source, tell_end};
 use k_status::{Status, after_writing};
 use std::alloc::Global;
 

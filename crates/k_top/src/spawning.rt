@@ -8,7 +8,7 @@ ghost use Rattle.k_top.specs.Scripts.{HasReplayed};
 
 use k_answers::translation_of;
 use k_io::{Sink, Source};
-use k_runner::{Outcome, replay_trace, tell_end};
+use k_run::{Outcome, replay_trace, tell_end};
 use k_status::{RunError, Status};
 use std::alloc::Global;
 

@@ -1,17 +1,17 @@
 //! A trace that is run on threads beside a watcher, which takes samples of the run and never the book.
 ghost use Rattle.std.specs.Prelude.{◌≡◌, ◌+◌, ◌<◌, ◌^◌, [], ◌∷◌, IfOk, Some, length, vec_capacity};
-ghost use Rattle.k_runner.specs.k_run.k_outcome.Listed.{AreRoomsFor};
-ghost use Rattle.k_runner.specs.k_run.k_opening.k_locks.Rooms.{HasRoom};
+ghost use Rattle.k_run.specs.k_outcome.Listed.{AreRoomsFor};
+ghost use Rattle.k_run.specs.k_opening.k_locks.Rooms.{HasRoom};
 ghost use Rattle.k_top.specs.Watched.{HasTaken, IsWatchedRunOf};
-ghost use Rattle.k_runner.specs.k_run.k_outcome.k_process.Heaps.{value_of};
-ghost use Rattle.k_runner.specs.k_run.k_outcome.k_process.Standing.{AllStand};
-ghost use Rattle.k_runner.specs.k_run.k_opening.k_still.Opening.{IsSetupOf};
+ghost use Rattle.k_run.specs.k_outcome.k_process.Heaps.{value_of};
+ghost use Rattle.k_run.specs.k_outcome.k_process.BetweenSteps.{AllStand};
+ghost use Rattle.k_run.specs.k_opening.k_still.Opening.{IsSetupOf};
 ghost use Rattle.k_trace.specs.Meaning.{meaning_of};
 ghost use Rattle.k_trace.specs.Rules.{IsTrace};
-ghost use Rattle.k_runner.specs.k_run.k_watch.Numbers.{numbers_of};
+ghost use Rattle.k_run.specs.k_watch.Numbers.{numbers_of};
 
 use k_io::{Gate, GatePlace, NoMemory};
-use k_runner::{
+use k_run::{
     Book, Outcome, Sample, Still, WatchPen, Watcher, World, WorldName, empty_list, finish_watched,
     make, open_still, open_watched, run,
 };
@@ -141,7 +141,7 @@ fn watch_still<W: WorldName + Send + Sync, G: Gate, R: Threads + Wait + Sync>(
     Ok(watch_world(rt, world, watcher, samples, count, gate))
 }
 
-/// Runs the trace as [`run_trace`](k_runner::run_trace) does, beside a watcher that takes so many samples meanwhile, and one more of the run
+/// Runs the trace as [`run_trace`](k_run::run_trace) does, beside a watcher that takes so many samples meanwhile, and one more of the run
 /// that is over. Each is the number of events, the use of the root limit and the number of living processes as the machine has them after so
 /// many events of the journal. The watcher takes no lock of the run. The gate is told at `Sampling` how many samples were taken, before each
 /// and before the run is ended. It takes all memory before the first operation.

@@ -1,21 +1,21 @@
 //! The command that runs a trace beside a watcher.
 ghost use Rattle.std.specs.Prelude.{◌≡◌, ◌++◌, IfErr, IfOk};
 ghost use Rattle.k_io.specs.Writing.{Writes};
-ghost use Rattle.k_runner.specs.k_run.k_outcome.Ends.{journal_of, last_state};
+ghost use Rattle.k_run.specs.k_outcome.Ends.{journal_of, last_state};
 ghost use Rattle.k_text.specs.Report.{text_over};
 ghost use Rattle.k_types.specs.Bounds.{most_trace_bytes};
 ghost use Rattle.k_status.specs.Telling.{IsUnwritten, Answers, TellsOfBytes, TellsOfSource};
 ghost use Rattle.k_answers.specs.Reports.{IsWatchedReport};
 ghost use Rattle.k_status.specs.Readings.{HasCause};
 ghost use Rattle.k_answers.specs.Samples.{samples_text};
-ghost use Rattle.k_runner.specs.Runs.{IsNamedEnd};
+ghost use Rattle.k_run.specs.Commands.{IsNamedEnd};
 ghost use Rattle.k_top.specs.Runs.{HasWatchedRun};
 
 use crate::watched::watch_trace;
 use k_answers::write_samples;
 use k_io::{Gate, Sink, Source, WriteFailed};
 use k_report::report;
-use k_runner::{Outcome, Sample, tell_end};
+use k_run::{Outcome, Sample, tell_end};
 use k_status::{RunError, Status, after_writing, trace_of};
 use std::alloc::Global;
 use std::sync::Wait;

@@ -1,7 +1,7 @@
 //! The command that runs a trace and tells the work of its collections.
 ghost use Rattle.std.specs.Prelude.{◌≡◌, ◌++◌, IfErr, IfOk};
 ghost use Rattle.k_io.specs.Writing.{Writes};
-ghost use Rattle.k_runner.specs.k_run.k_outcome.Ends.{journal_of, last_state};
+ghost use Rattle.k_run.specs.k_outcome.Ends.{journal_of, last_state};
 ghost use Rattle.k_text.specs.Report.{text_over};
 ghost use Rattle.k_types.specs.Bounds.{most_trace_bytes};
 ghost use Rattle.k_answers.specs.k_work.Lines.{work_text};
@@ -13,7 +13,7 @@ ghost use Rattle.k_top.specs.Runs.{CanBeWritten, HasWorkedRun};
 use k_answers::{WorkTable, work_of, write_work};
 use k_io::{Gate, Sink, Source, WriteFailed};
 use k_report::report;
-use k_runner::{Outcome, run_trace, tell_end};
+use k_run::{Outcome, run_trace, tell_end};
 use k_status::{RunError, Status, after_writing, trace_of};
 use std::alloc::Global;
 use std::sync::Wait;

@@ -1,13 +1,13 @@
 //! The command that runs the workload.
 ghost use Rattle.std.specs.Prelude.{◌≡◌, ◌≤◌, IfOk};
 ghost use Rattle.k_answers.specs.k_big.Workload.{big_trace, most_objects};
-ghost use Rattle.k_runner.specs.k_run.Runs.{IsRunOf};
+ghost use Rattle.k_run.specs.Runs.{IsRunOf};
 ghost use Rattle.k_status.specs.Telling.{IsUnwritten, Answers};
 ghost use Rattle.k_answers.specs.Parts.{TellsOfBig};
 
 use k_answers::{big_trace, summary};
 use k_io::{Gate, NoMemory, Sink};
-use k_runner::{Outcome, run_trace};
+use k_run::{Outcome, run_trace};
 use k_status::{Status, after_writing, want_of_memory};
 use std::alloc::Global;
 use std::sync::Wait;

@@ -12,8 +12,8 @@ use Rattle.k_watch.specs.Samples.{sample_in, words_of, newest_of, IsLast, IsRisi
 use Rattle.k_watch.specs.Rule.{TakenFits, AllTakenFit, ViewFits, one_if_pen, KeepsSamples, IsOpening, KeepsRule}
 use Rattle.k_watch.specs.Steps.{taken, newcomer, Opens, Publishes, Takes, Looks, after_take, after_give, watcher_given}
 use Rattle.k_watch.proofs.SampleLists.{newest_snoc, newest_last, last_snoc, rising_below, rising_one_more, all_among_longer, among_last, all_among_one_more, all_among_below, below_more}
-use Rattle.k_base.proofs.Places.{total_set_there, total_two, only_one}
-use Rattle.k_base.proofs.Sums.{total_push}
+use Rattle.k_types.proofs.Places.{total_set_there, total_two, only_one}
+use Rattle.k_types.proofs.Sums.{total_push}
 
 -- one view changes, and what was published
 kept_set : (ws ws' : List ℕ) (vs : List View) (k : KeepsSamples ws vs) (l : List Sample) (id : ℕ) (v w : View)

@@ -12,7 +12,7 @@ use Rattle.k_types.specs.TraceRules.{KeepsRules}
 use Rattle.k_agree.specs.Agreement.{BookShows}
 use Rattle.k_limits.specs.Limits.{use_at}
 use Rattle.k_shares.specs.Sharers.{living_of}
-use Rattle.k_base.proofs.Maxima.{length_in}
+use Rattle.k_types.proofs.Maxima.{length_in}
 use Rattle.k_book.specs.Books.{BookRecord, book_limits}
 use Rattle.k_book.specs.Machine.{IsBookOf}
 use Rattle.k_book.proofs.Telling.{tells, tells_limits}

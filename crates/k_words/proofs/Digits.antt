@@ -1,11 +1,10 @@
 -- The value of digits, read from the front.
-use Rattle.std.proofs.Common.{◌≡◌, ℕ, ◌+◌, ◌*◌, ◌<◌, ◌≤◌, Bool, true, false, cond, ltb, length, take, get_or, refl, arith}
+use Rattle.std.proofs.Common.{◌≡◌, ℕ, ◌+◌, ◌*◌, ◌<◌, ◌≤◌, Bool, true, false, cond, ltb, length, take, get_or, refl, arith, Some, None, ◌&&◌}
 use Rattle.std.specs.Char.{digit_value}
 use Rattle.std.proofs.lemmas.Int.Digits.{digits_value_more}
 use Rattle.std.proofs.lemmas.Str.Parse.{digits_value-take-le}
 use Rattle.k_words.specs.Words.{Text}
 use Rattle.k_words.specs.Numbers.{value, is_number, below_of}
-use Rattle.std.proofs.Common.{Some, None, ◌&&◌}
 use Rattle.std.proofs.lemmas.Bool.{le-ltb}
 
 pub value_more : (word : Text) (i : ℕ) → i < length word → value (take (i + 1) word) ≡ value (take i word) * 10 + digit_value (get_or word i 0)

@@ -12,7 +12,7 @@ use Rattle.k_types.specs.State.{State, opening}
 use Rattle.k_types.specs.Steps.{IsLegalHistory}
 use Rattle.k_types.specs.Trace.{IsHeap, Trace, process_count}
 use Rattle.k_types.specs.TraceRules.{AreLimits}
-use Rattle.k_known.proofs.Laws.{events_are_known}
+use Rattle.k_laws.proofs.KnownLaws.{events_are_known}
 use Rattle.k_work.specs.Crediting.{IsAmong, kernel_after}
 use Rattle.k_work.specs.Credits.{Credit, asker_of, credit_of, credits, credits_from, kernel_asker}
 

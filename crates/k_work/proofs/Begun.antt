@@ -13,7 +13,7 @@ use Rattle.k_types.specs.Effects.{step}
 use Rattle.k_types.specs.State.{State, is_scanned, opening}
 use Rattle.k_types.specs.Steps.{IsLegalHistory, IsPossible, IsRun, state_after}
 use Rattle.k_types.specs.Trace.{Trace}
-use Rattle.k_frame.proofs.Histories.{history_induction, legal_front, legal_rest, state_next}
+use Rattle.k_laws.proofs.Histories.{history_induction, legal_front, legal_rest, state_next}
 use Rattle.k_work.specs.Beginnings.{Beginning, IsAskedBy, IsCredited, is_end_of}
 use Rattle.k_work.specs.Crediting.{kernel_after}
 use Rattle.k_work.specs.Credits.{asker_of, credits, credits_from, kernel_asker, work_in}

@@ -8,7 +8,7 @@ use Rattle.k_types.specs.State.{State, opening}
 use Rattle.k_types.specs.Steps.{run, state_after}
 use Rattle.k_types.specs.Totals.{total}
 use Rattle.k_types.specs.Trace.{Trace}
-use Rattle.k_frame.proofs.Histories.{state_next}
+use Rattle.k_laws.proofs.Histories.{state_next}
 use Rattle.k_work.specs.Crediting.{kernel_after}
 use Rattle.k_work.specs.Credits.{credit_of, credits, credits_from, kernel_asker}
 use Rattle.k_work.specs.Tables.{ends_in}

@@ -12,7 +12,7 @@ use Rattle.k_types.specs.Sound.{IsSound, kinds_by}
 use Rattle.k_types.specs.State.{Object, State, field_kind}
 use Rattle.k_types.specs.Totals.{total}
 use Rattle.k_types.specs.Trace.{Trace}
-use Rattle.k_base.proofs.Ordered.{all_found}
+use Rattle.k_types.proofs.Ordered.{all_found}
 use Rattle.k_plain.specs.Owned.{is_reference, references_in}
 use Rattle.k_state.specs.Setups.{AreSetupRules}
 use Rattle.k_work.specs.Credits.{work_in}

@@ -1,10 +1,9 @@
 -- Lists over the numbers below a bound.
 use Rattle.std.proofs.Common.{◌≡◌, ℕ, zero, suc, ◌+◌, ◌<◌, ◌≤◌, refl, ap, ◌∙◌, List, ◌∷◌, map, get_or, drop, length, replicate, arith}
-use Rattle.std.proofs.lemmas.List.{drop_more, at_drop_all}
-use Rattle.std.proofs.lemmas.List.{length-map}
+use Rattle.std.proofs.lemmas.List.{drop_more, at_drop_all, length-map}
 use Rattle.k_types.specs.Numbers.{numbers_from, numbers_below}
 use Rattle.k_types.specs.Totals.{total}
-use Rattle.k_base.proofs.Lists.{numbers_length, at_number}
+use Rattle.k_types.proofs.Lists.{numbers_length, at_number}
 
 -- the value at a number
 pub at_below : {A : Type 0} (f : ℕ → A) (n k : ℕ) (d : A) → k < n → get_or (map f (numbers_below n)) k d ≡ f k

@@ -9,7 +9,7 @@ use Rattle.k_types.specs.Effects.{step}
 use Rattle.k_types.specs.State.{State, is_scanned, opening}
 use Rattle.k_types.specs.Steps.{run, state_after}
 use Rattle.k_types.specs.Trace.{Trace}
-use Rattle.k_frame.proofs.Histories.{state_next}
+use Rattle.k_laws.proofs.Histories.{state_next}
 use Rattle.k_work.specs.Beginnings.{Beginning, is_end_of}
 use Rattle.k_work.proofs.Scanned.{stays_scanned}
 

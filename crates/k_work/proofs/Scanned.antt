@@ -18,9 +18,9 @@ use Rattle.k_types.specs.Replies.{first_fault, faults}
 use Rattle.k_types.specs.State.{State, Scan, register, scan_of, is_scanned}
 use Rattle.k_types.specs.Trace.{Trace}
 use Rattle.k_types.specs.Updates.{count_done, set_register, create, open_scan, set_phase, add_share, keep_objects, keep_exits, keep_shares, close_scan, clear_registers, end_process, turn_exits, set_max, close}
-use Rattle.k_base.proofs.NameTests.{heap_eq_sym}
-use Rattle.k_frame.proofs.Kept.{scan_closed}
-use Rattle.k_frame.proofs.Rest.{store_rest, put_rest, freeze_rest, kill_rest}
+use Rattle.k_types.proofs.NameTests.{heap_eq_sym}
+use Rattle.k_laws.proofs.Kept.{scan_closed}
+use Rattle.k_laws.proofs.Rest.{store_rest, put_rest, freeze_rest, kill_rest}
 use Rattle.k_work.specs.Beginnings.{IsAskedBy, is_end_of}
 use Rattle.k_work.specs.Credits.{asker_of, kernel_asker}
 

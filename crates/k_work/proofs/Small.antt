@@ -8,9 +8,9 @@ use Rattle.k_types.specs.Steps.{IsLegalHistory, state_after}
 use Rattle.k_types.specs.Totals.{total}
 use Rattle.k_types.specs.Trace.{Trace, process_count}
 use Rattle.k_types.specs.TraceRules.{AreLimits}
-use Rattle.k_base.proofs.Lists.{length_push}
-use Rattle.k_base.proofs.Sums.{ones, total_append}
-use Rattle.k_frame.proofs.Histories.{history_induction, legal_append}
+use Rattle.k_types.proofs.Lists.{length_push}
+use Rattle.k_types.proofs.Sums.{ones, total_append}
+use Rattle.k_laws.proofs.Histories.{history_induction, legal_append}
 use Rattle.k_laws.proofs.SoundSteps.{legal_sound}
 use Rattle.k_solo.proofs.Rooms.{history_room}
 use Rattle.k_state.specs.Setups.{AreSetupRules}

@@ -5,13 +5,13 @@ use Rattle.std.proofs.lemmas.List.{append-nil}
 use Rattle.std.specs.List.{AllByRecursion}
 use Rattle.k_types.specs.Numbers.{numbers_below}
 use Rattle.k_types.specs.Totals.{total}
-use Rattle.k_base.proofs.Sums.{ones, one_counts, sum_both, total_at_most, total_push, zeros, total_map}
+use Rattle.k_types.proofs.Sums.{ones, one_counts, sum_both, total_at_most, total_push, zeros, total_map}
 use Rattle.k_work.specs.declared.rows.WorkRow.{WorkRow}
 use Rattle.k_work.specs.Crediting.{IsAmong, row_for, with_credit, with_credits, with_work}
 use Rattle.k_work.specs.Credits.{Credit}
 use Rattle.k_work.specs.Tables.{Work, is_same, one_if_to, row_of, table_of, total_row, work_if_to}
 use Rattle.k_work.proofs.Numbers.{at_below, constant_below}
-use Rattle.k_base.proofs.Lists.{set_below}
+use Rattle.k_types.proofs.Lists.{set_below}
 
 abbrev work_row : ℕ → ℕ → WorkRow
 work_row n w = record { collections = n; work = w }

@@ -11,9 +11,9 @@ use Rattle.k_types.specs.State.{State, opening}
 use Rattle.k_types.specs.Steps.{IsLegalHistory, IsPossible, IsRun, state_after}
 use Rattle.k_types.specs.Totals.{total}
 use Rattle.k_types.specs.Trace.{Trace, process_count}
-use Rattle.k_base.proofs.Sums.{total_append}
-use Rattle.k_frame.proofs.Histories.{legal_front, legal_rest, state_next}
-use Rattle.k_known.proofs.Laws.{events_are_known}
+use Rattle.k_types.proofs.Sums.{total_append}
+use Rattle.k_laws.proofs.Histories.{legal_front, legal_rest, state_next}
+use Rattle.k_laws.proofs.KnownLaws.{events_are_known}
 use Rattle.k_solo.proofs.Rooms.{history_room}
 use Rattle.k_state.specs.Machines.{Machine}
 use Rattle.k_state.specs.Setups.{AreSetupRules}

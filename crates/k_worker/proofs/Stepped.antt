@@ -9,14 +9,14 @@ use Rattle.k_types.specs.declared.op.Op.TheVariants.{Exit, KCollect, Kill}
 use Rattle.k_types.specs.Agree.{book_shown_by}
 use Rattle.k_types.specs.Cells.{Cell}
 use Rattle.k_types.specs.Trace.{Trace}
-use Rattle.k_squares.specs.Locals.{is_local_in}
-use Rattle.k_squares.specs.Touches.{other_cells_in}
-use Rattle.k_moves.specs.Shown.{idle_part}
+use Rattle.k_laws.specs.Locals.{is_local_in}
+use Rattle.k_laws.specs.Touches.{other_cells_in}
+use Rattle.k_agree.specs.Shown.{idle_part}
 use Rattle.k_locks.specs.k_process.k_book.Books.{BookRecord}
 use Rattle.k_locks.specs.k_process.k_heap.Heaps.{HeapRecord}
 use Rattle.k_locks.specs.k_process.Keeping.{operations_left}
 use Rattle.k_locks.specs.k_process.declared.process.Process.{Process}
-use Rattle.k_locks.specs.k_process.Standing.{ComesNext, HasDone, IsNextOf}
+use Rattle.k_locks.specs.k_process.BetweenSteps.{ComesNext, HasDone, IsNextOf}
 use Rattle.k_locks.specs.k_process.Worlds.{WorldValue}
 use Rattle.k_operate.specs.Readiness.{IsOutside, begins_or_ends}
 use Rattle.k_operate.specs.Steps.{HasDoneInside, HasPublishedAll, PairStands}

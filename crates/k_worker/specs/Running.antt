@@ -8,8 +8,8 @@ use Rattle.k_types.specs.declared.op.Op.TheVariants.{Exit, KCollect, Kill}
 use Rattle.k_types.specs.Agree.{book_shown_by}
 use Rattle.k_types.specs.Cells.{Cell}
 use Rattle.k_types.specs.Trace.{Trace}
-use Rattle.k_squares.specs.Touches.{other_cells_in}
-use Rattle.k_moves.specs.Shown.{idle_part}
+use Rattle.k_laws.specs.Touches.{other_cells_in}
+use Rattle.k_agree.specs.Shown.{idle_part}
 use Rattle.k_shares.specs.Sharers.{lowest_orphan}
 use Rattle.k_locks.specs.k_process.k_book.Books.{BookRecord}
 use Rattle.k_locks.specs.k_process.k_heap.Heaps.{HeapRecord}
@@ -21,7 +21,7 @@ use Rattle.k_worker.specs.declared.turns.Turn.{Turn}
 use Rattle.k_worker.specs.declared.turns.Turn.TheVariants.{Done, Over, Kills}
 use Rattle.k_operate.specs.Readiness.{IsOutside, IsReady}
 use Rattle.k_operate.specs.Collecting.{HasSameLeft, KernelCollects}
-use Rattle.k_locks.specs.k_process.Standing.{ComesNext, HasDone}
+use Rattle.k_locks.specs.k_process.BetweenSteps.{ComesNext, HasDone}
 use Rattle.k_locks.specs.k_process.Worlds.{WorldValue}
 
 -- the process has done the operation where the answer is yes; where it is no, nothing changed and the operation is not local

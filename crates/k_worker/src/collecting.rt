@@ -2,7 +2,7 @@
 ghost use Rattle.std.specs.Prelude.{IsFalse, IsTrue, ◌≡◌};
 ghost use Rattle.k_locks.specs.k_process.Keeping.{KernelKeeps};
 ghost use Rattle.k_operate.specs.Collecting.{Collects, CollectsSwept, HasSameLeft, KernelCollectsSwept};
-ghost use Rattle.k_locks.specs.k_process.Standing.{ComesNext, HasDone, ProcessStands};
+ghost use Rattle.k_locks.specs.k_process.BetweenSteps.{ComesNext, HasDone, ProcessStands};
 ghost use Rattle.k_worker.specs.Running.{HasBegunUnless, HasCollectedUnless, IsAbsorbedIfFirst, IsLeft};
 ghost use Rattle.k_types.specs.declared.names.CellPhase.TheVariants.{Begun};
 ghost use Rattle.k_types.specs.declared.op.Op.TheVariants.{Collect, Exit, KCollect, Kill};

@@ -1,7 +1,7 @@
-//! What a worker of a run does: a turn of a process under the locks that it needs, and the order in which these locks are taken.
+//! What a worker of a run does: a turn of a process under the locks that it needs.
 //!
-//! [`turn_behind`] has the process behind a lock do its next operation and a stretch of more. A thread begins with [`HoldsNone`]; each
-//! function that waits for a lock asks for the token of what is held already, so that no two threads wait for one another.
+//! [`turn_behind`] has the process behind a lock do its next operation and a stretch of more, and [`done_behind`] says how many it has
+//! done. Both are lent the token of a worker that holds no lock ([`HoldsNone`]), by which `k_locks` gives locks in their order alone.
 #![tactic(auto)]
 
 mod collecting;

@@ -1,6 +1,6 @@
 //! The next operation of a process whose lock is held.
 ghost use Rattle.std.specs.Prelude.{IsFalse};
-ghost use Rattle.k_locks.specs.k_process.Standing.{ComesNext};
+ghost use Rattle.k_locks.specs.k_process.BetweenSteps.{ComesNext};
 ghost use Rattle.k_operate.specs.Readiness.{IsOutside, IsReady, begins_or_ends};
 ghost use Rattle.k_worker.specs.Running.{HasDoneBeside, HasDoneUnless, IsReadyFor};
 ghost use Rattle.k_types.specs.declared.names.Heap.TheVariants.{Kernel, Shared};

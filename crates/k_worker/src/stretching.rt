@@ -1,7 +1,7 @@
 //! Operations that follow one another under one hold of the book.
 ghost use Rattle.std.specs.Prelude.{IsFalse};
 ghost use Rattle.k_operate.specs.Readiness.{begins_or_ends};
-ghost use Rattle.k_locks.specs.k_process.Standing.{ComesNext};
+ghost use Rattle.k_locks.specs.k_process.BetweenSteps.{ComesNext};
 
 use crate::stepping::{do_inside, do_under_book, do_under_kernel};
 use k_io::Gate;

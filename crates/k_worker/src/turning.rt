@@ -2,7 +2,7 @@
 //! and the book's in this order, as far as it needs them. A kill takes the locks of two processes' heaps, that of the lower number first.
 ghost use Rattle.std.specs.Prelude.{IsFalse};
 ghost use Rattle.k_operate.specs.Readiness.{begins_or_ends};
-ghost use Rattle.k_locks.specs.k_process.Standing.{ComesNext};
+ghost use Rattle.k_locks.specs.k_process.BetweenSteps.{ComesNext};
 ghost use Rattle.k_worker.specs.Running.{HasKilledUnless, HasTakenTurn};
 
 use crate::collecting::{collect, collect_kernel, exit, go_on, kill};

@@ -1,8 +1,8 @@
-//! The program that runs traces alone: what `k_runner` does, with the standard streams and the arguments of the command line.
+//! The program that runs traces alone: what `k_run` does, with the standard streams and the arguments of the command line.
 #![tactic(auto)]
 
 use k_io::{NoGate, StdSink, StdSource};
-use k_runner::program;
+use k_run::program;
 use std::env;
 use std::process::ExitCode;
 

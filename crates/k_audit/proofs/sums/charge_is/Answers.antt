@@ -4,7 +4,7 @@ use Rattle.k_types.specs.Owners.{charge_of}
 use Rattle.k_types.specs.Trace.{limit_of}
 use Rattle.k_audit.proofs.ClaimsLaw.{not_cut}
 use Rattle.k_audit.proofs.sums.charge_is.Goals as goal
-use Rattle.k_base.proofs.Charges.{charge_at_most}
+use Rattle.k_types.proofs.Charges.{charge_at_most}
 
 pub returns : goal.returns
 returns c =

@@ -2,7 +2,7 @@ use Rattle.std.proofs.Common.{◌<◌, arith}
 use Rattle.k_types.specs.Owners.{charge_of}
 use Rattle.k_types.specs.Trace.{process_count}
 use Rattle.k_big.proofs.summing.charges_of.Goals as goal
-use Rattle.k_base.proofs.Totals.{total_more, total_within}
+use Rattle.k_types.proofs.Totals.{total_more, total_within}
 
 pub overflow_add-sum : goal.overflow_add-sum
 overflow_add-sum g c =

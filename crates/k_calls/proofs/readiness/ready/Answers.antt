@@ -9,7 +9,7 @@ use Rattle.k_calls.specs.Refusals.{IsNotReady, is_plain}
 use Rattle.k_guests.specs.Serving.{basis_of, open_trace}
 use Rattle.k_calls.proofs.Refused.{lacks, lacks_test}
 use Rattle.k_calls.proofs.readiness.ready.Goals as goal
-use Rattle.k_base.proofs.Tests.{neither}
+use Rattle.k_types.proofs.Tests.{neither}
 
 pub returns-then-not-is_in_range-clause-why : goal.returns-then-not-is_in_range-clause-why
 returns-then-not-is_in_range-clause-why c = inl (lacks_test Unknown (in_range (open_trace c.args.terms.now.setup) c.args.op.now) c.is_in_range.result c.is_in_range.ensures c.if-not-is_in_range.true)

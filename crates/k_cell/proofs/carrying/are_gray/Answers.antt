@@ -1,9 +1,9 @@
 use Rattle.std.proofs.Common.{◌≡◌, true, slice_get, inl, inr, subst, sym, ap, ◌∙◌, arith}
 use Rattle.std.proofs.lemmas.Bool.{cases_eq}
 use Rattle.std.proofs.lemmas.Option.{get_or_from_slice_get}
-use Rattle.k_areas.specs.k_types.declared.names.Name.{Name}
-use Rattle.k_areas.specs.k_space.Areas.{gray_at}
-use Rattle.k_areas.specs.k_mark.Kept.{old_at}
+use Rattle.k_mark.specs.k_types.declared.names.Name.{Name}
+use Rattle.k_mark.specs.k_space.Areas.{gray_at}
+use Rattle.k_mark.specs.Kept.{old_at}
 use Rattle.k_cell.proofs.Carried.{all_gray}
 use Rattle.k_cell.proofs.carrying.are_gray.Goals as goal
 

@@ -1,7 +1,7 @@
 use Rattle.std.proofs.Common.{◌≡◌, ◌<◌, ℕ, true, Some, slice_get}
-use Rattle.k_areas.specs.k_types.declared.names.Name.{Name}
-use Rattle.k_areas.specs.k_space.Areas.{gray_at}
-use Rattle.k_areas.specs.k_mark.Kept.{old_at}
+use Rattle.k_mark.specs.k_types.declared.names.Name.{Name}
+use Rattle.k_mark.specs.k_space.Areas.{gray_at}
+use Rattle.k_mark.specs.Kept.{old_at}
 use Rattle.k_cell.proofs.carrying.are_gray.Given as goal
 
 abbrev pub invariant-loop-root : goal.invariant-loop-root

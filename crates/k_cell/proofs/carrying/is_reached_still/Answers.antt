@@ -1,7 +1,7 @@
-use Rattle.k_areas.specs.k_types.Names.{name_among}
-use Rattle.k_areas.specs.k_space.Areas.{gray_at}
-use Rattle.k_areas.specs.k_mark.Kept.{old_at}
-use Rattle.k_areas.specs.k_mark.Marking.{refers_at}
+use Rattle.k_mark.specs.k_types.Names.{name_among}
+use Rattle.k_mark.specs.k_space.Areas.{gray_at}
+use Rattle.k_mark.specs.Kept.{old_at}
+use Rattle.k_mark.specs.Marking.{refers_at}
 use Rattle.k_cell.proofs.Keeps.{kept_from}
 use Rattle.k_cell.proofs.carrying.is_reached_still.Goals as goal
 

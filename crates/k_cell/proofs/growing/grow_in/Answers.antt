@@ -1,7 +1,7 @@
 use Rattle.std.proofs.Common.{ap, ◌∙◌}
 use Rattle.std.proofs.lemmas.Result.{on_err_weaker}
-use Rattle.k_areas.specs.k_space.Areas.{with_segment}
-use Rattle.k_areas.proofs.Segs.{put_back}
+use Rattle.k_mark.specs.k_space.Areas.{with_segment}
+use Rattle.k_mark.proofs.Segs.{put_back}
 use Rattle.k_cell.proofs.growing.grow_in.Goals as goal
 
 pub returns-clause-err : goal.returns-clause-err

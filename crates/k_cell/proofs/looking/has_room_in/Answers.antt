@@ -1,5 +1,5 @@
 use Rattle.std.proofs.Common.{◌≡◌, Some, sym, inr}
-use Rattle.k_areas.specs.k_space.Areas.{segment_at}
+use Rattle.k_mark.specs.k_space.Areas.{segment_at}
 use Rattle.k_cell.proofs.Living.{room_there}
 use Rattle.k_cell.proofs.looking.has_room_in.Goals as goal
 

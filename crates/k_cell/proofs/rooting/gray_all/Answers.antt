@@ -1,6 +1,6 @@
 use Rattle.std.proofs.Common.{◌+◌, drop, sym, ap, subst, ◌∙◌}
 use Rattle.std.proofs.lemmas.List.{drop_more}
-use Rattle.k_areas.specs.k_space.Areas.{AreaValue, HasDistinct, grayed}
+use Rattle.k_mark.specs.k_space.Areas.{AreaValue, HasDistinct, grayed}
 use Rattle.k_cell.specs.Rooted.{grayed_all}
 use Rattle.k_cell.proofs.Rooted.{distinct_grayed}
 use Rattle.k_cell.proofs.rooting.gray_all.Goals as goal

@@ -1,5 +1,5 @@
 use Rattle.std.proofs.Common.{◌≡◌, drop}
-use Rattle.k_areas.specs.k_space.Areas.{HasDistinct}
+use Rattle.k_mark.specs.k_space.Areas.{HasDistinct}
 use Rattle.k_cell.specs.Rooted.{grayed_all}
 use Rattle.k_cell.proofs.rooting.gray_all.Given as goal
 

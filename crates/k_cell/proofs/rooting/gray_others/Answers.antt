@@ -1,9 +1,9 @@
 use Rattle.std.proofs.Common.{◌≡◌, ◌+◌, List, [], ◌∷◌, ◌++◌, take, get_or, true, sym, ap, subst, ◌∙◌}
 use Rattle.std.proofs.lemmas.List.{take_more}
-use Rattle.k_areas.specs.k_types.declared.names.Name.{Name}
-use Rattle.k_areas.specs.k_types.Names.{name_among}
-use Rattle.k_areas.specs.k_space.Bounds.{is_covered}
-use Rattle.k_areas.specs.k_space.Areas.{AreaValue, HasDistinct, grayed}
+use Rattle.k_mark.specs.k_types.declared.names.Name.{Name}
+use Rattle.k_mark.specs.k_types.Names.{name_among}
+use Rattle.k_mark.specs.k_space.Bounds.{is_covered}
+use Rattle.k_mark.specs.k_space.Areas.{AreaValue, HasDistinct, grayed}
 use Rattle.k_cell.specs.Rooted.{AreGrayBut}
 use Rattle.k_cell.proofs.Rooted.{among_at, distinct_grayed, one_grayed, one_known}
 use Rattle.k_cell.proofs.rooting.gray_others.Goals.{then-covers+then-stands_at, else-covers}

@@ -1,5 +1,5 @@
 use Rattle.std.proofs.Common.{take}
-use Rattle.k_areas.specs.k_space.Areas.{HasDistinct}
+use Rattle.k_mark.specs.k_space.Areas.{HasDistinct}
 use Rattle.k_cell.specs.Rooted.{AreGrayBut}
 use Rattle.k_cell.proofs.rooting.gray_others.Given as goal
 

@@ -1,5 +1,5 @@
 use Rattle.std.proofs.Common.{sym, ap, subst, ◌∙◌}
-use Rattle.k_areas.specs.k_space.Areas.{AreaValue, HasDistinct, black_at, gray_at, unmarked}
+use Rattle.k_mark.specs.k_space.Areas.{AreaValue, HasDistinct, black_at, gray_at, unmarked}
 use Rattle.k_cell.specs.Rooted.{grayed_all}
 use Rattle.k_cell.specs.Carried.{known_bound}
 use Rattle.k_cell.proofs.Carried.{marks_kept}

@@ -1,6 +1,6 @@
 use Rattle.std.proofs.Common.{◌≡◌, Some, sym, ap, ◌∙◌, arith}
-use Rattle.k_areas.specs.k_space.Areas.{segment_at, with_segment}
-use Rattle.k_areas.proofs.AreaRows.{number_found}
+use Rattle.k_mark.specs.k_space.Areas.{segment_at, with_segment}
+use Rattle.k_mark.proofs.AreaRows.{number_found}
 use Rattle.k_cell.proofs.Living.{room_there}
 use Rattle.k_cell.proofs.writing.place_in.Goals as goal
 

@@ -1,7 +1,7 @@
 use Rattle.std.proofs.Common.{inl, inr, refl, Some, None, slice_get, sym, ap, ◌∙◌, option_map}
-use Rattle.k_areas.specs.k_types.Names.{name_of}
-use Rattle.k_areas.specs.k_types.State.{Refers}
-use Rattle.k_areas.specs.k_space.Areas.{row_of_name}
+use Rattle.k_mark.specs.k_types.Names.{name_of}
+use Rattle.k_mark.specs.k_types.State.{Refers}
+use Rattle.k_mark.specs.k_space.Areas.{row_of_name}
 use Rattle.k_cell.specs.Looks.{row_fields}
 use Rattle.k_cell.proofs.Written.{has_ref, holds_ref_of, kind_there, lent_same, none_there, same_if}
 use Rattle.k_cell.proofs.writing.store_in.Goals as goal

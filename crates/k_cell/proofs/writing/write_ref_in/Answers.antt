@@ -1,7 +1,7 @@
 use Rattle.std.proofs.Common.{◌≡◌, Option, Some, option_map, sym, ap, subst, ◌∙◌}
-use Rattle.k_areas.specs.k_space.Objects.{HasRef}
-use Rattle.k_areas.specs.k_space.Segments.{Row, SegmentValue, row_at}
-use Rattle.k_areas.specs.k_space.Areas.{row_in_segment, segment_at}
+use Rattle.k_mark.specs.k_space.Objects.{HasRef}
+use Rattle.k_mark.specs.k_space.Segments.{Row, SegmentValue, row_at}
+use Rattle.k_mark.specs.k_space.Areas.{row_in_segment, segment_at}
 use Rattle.k_cell.proofs.Areas.{same_row}
 use Rattle.k_cell.proofs.writing.write_ref_in.Goals as goal
 

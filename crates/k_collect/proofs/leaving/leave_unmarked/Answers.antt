@@ -1,5 +1,5 @@
 use Rattle.std.proofs.Common.{◌-◌, length, ap, ap₂, subst, arith, ◌∙◌}
-use Rattle.k_base.specs.Distinct.{AreDistinctNames}
+use Rattle.k_types.specs.Distinct.{AreDistinctNames}
 use Rattle.k_commit.specs.k_heap.Heaps.{HeapRecord}
 use Rattle.k_collect.proofs.Left.{book_left, fewer_left, left_counted}
 use Rattle.k_collect.proofs.leaving.leave_unmarked.Goals as goal

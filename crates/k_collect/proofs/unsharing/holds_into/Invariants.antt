@@ -1,6 +1,6 @@
 use Rattle.std.proofs.Common.{◌≡◌, false, take}
 use Rattle.std.specs.List.{list_any}
-use Rattle.k_changes.specs.BookChanges.{registers_in}
+use Rattle.k_laws.specs.BookChanges.{registers_in}
 use Rattle.k_collect.specs.Unsharing.{lies_in}
 use Rattle.k_collect.proofs.unsharing.holds_into.Given as goal
 

@@ -3,7 +3,7 @@ use Rattle.k_types.specs.declared.names.Name.{Name}
 use Rattle.k_types.specs.declared.names.Pid.{Pid}
 use Rattle.k_types.specs.Agree.{book_shown_by}
 use Rattle.k_types.specs.Names.{name_of}
-use Rattle.k_book.specs.k_changes.BookChanges.{owner_in, with_pin_moved}
+use Rattle.k_book.specs.k_laws.BookChanges.{owner_in, with_pin_moved}
 use Rattle.k_commit.proofs.Setting.{fits_segment, held_then, own_by_segment, pin_there_now, pins_alone, pins_have_room_now, pins_moved, pins_small_now, value_at_home}
 use Rattle.k_commit.proofs.registers.set_register.Goals as goal
 

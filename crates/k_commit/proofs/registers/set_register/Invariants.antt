@@ -1,4 +1,4 @@
-use Rattle.k_book.specs.k_changes.BookChanges.{owner_in}
+use Rattle.k_book.specs.k_laws.BookChanges.{owner_in}
 use Rattle.k_types.specs.Agree.{book_shown_by}
 use Rattle.k_commit.proofs.registers.set_register.Given as goal
 

@@ -3,7 +3,7 @@ use Rattle.std.proofs.lemmas.Bool.{not-true}
 use Rattle.k_types.specs.declared.names.LimitId.{LimitId}
 use Rattle.k_types.specs.Names.{among}
 use Rattle.k_types.specs.Trace.{process_count}
-use Rattle.k_base.proofs.Numbered.{all_below}
+use Rattle.k_types.proofs.Numbered.{all_below}
 use Rattle.k_complete.proofs.Closings.{all_fails}
 use Rattle.k_complete.proofs.closing.all_have_ended.Goals as goal
 

@@ -3,13 +3,13 @@ use Rattle.std.proofs.lemmas.Option.{slice_get-get_or}
 use Rattle.k_types.specs.Complete.{IsPrefixOf}
 use Rattle.k_operate.specs.k_process.declared.process.Process.{Process}
 use Rattle.k_operate.specs.k_process.Heaps.{value_of}
-use Rattle.k_operate.specs.k_process.Standing.{IsNextOf}
+use Rattle.k_operate.specs.k_process.BetweenSteps.{IsNextOf}
 use Rattle.k_operate.specs.Adding.{known_to}
 use Rattle.k_operate.proofs.Grown.{prefix_by, prefix_trans}
 use Rattle.k_complete.proofs.PlacedKept.{completed, fewer_at, kept_all, kept_on, read_there}
 use Rattle.k_complete.proofs.ending.complete.Goals as goal
 use Rattle.k_tie.proofs.RuleKept.{prefix_all}
-use Rattle.k_base.proofs.Lists.{same_value}
+use Rattle.k_types.proofs.Lists.{same_value}
 
 pub loop-op-init : goal.loop-op-init
 loop-op-init g c = record {

@@ -3,7 +3,7 @@ use Rattle.k_operate.specs.k_process.declared.process.Process.{Process}
 use Rattle.k_types.specs.Complete.{IsPrefixOf}
 use Rattle.k_operate.specs.Adding.{known_to}
 use Rattle.k_operate.specs.k_process.Heaps.{value_of}
-use Rattle.k_operate.specs.k_process.Standing.{AllStand}
+use Rattle.k_operate.specs.k_process.BetweenSteps.{AllStand}
 use Rattle.k_complete.specs.Ended.{AreKeptBut}
 use Rattle.k_complete.proofs.PlacedKept.{left_of}
 use Rattle.k_complete.proofs.ending.complete.Given as goal

@@ -2,7 +2,7 @@ use Rattle.std.proofs.Common.{◌≡◌, ◌<◌, ℕ, Some, length, slice_get}
 use Rattle.k_operate.specs.k_process.declared.process.Process.{Process}
 use Rattle.k_types.specs.Complete.{IsPrefixOf}
 use Rattle.k_operate.specs.k_process.Heaps.{value_of}
-use Rattle.k_operate.specs.k_process.Standing.{AllStand, IsThroughWith}
+use Rattle.k_operate.specs.k_process.BetweenSteps.{AllStand, IsThroughWith}
 use Rattle.k_complete.proofs.ending.complete_all.Given as goal
 
 abbrev pub ghost-complete : goal.ghost-complete

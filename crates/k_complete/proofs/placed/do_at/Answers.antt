@@ -9,7 +9,7 @@ use Rattle.k_complete.specs.Placed.{CanDoAt, CanKillAt, HasDoneAt, HasKilledAt}
 use Rattle.k_complete.proofs.PlacedKept.{can_do_next, can_kill_at, done_kill, done_next, read_there, same_target, spares_by, target}
 use Rattle.k_complete.proofs.placed.do_at.Goals as goal
 use Rattle.k_complete.proofs.placed.do_at.Goals.{in-Kill+else-target-at, in_default}
-use Rattle.k_base.proofs.Lists.{same_value}
+use Rattle.k_types.proofs.Lists.{same_value}
 
 pub kill_at-requires : goal.kill_at-requires
 kill_at-requires g c =

@@ -1,12 +1,12 @@
 use Rattle.std.proofs.Common.{◌<◌, refl, sym, ◌∙◌, subst, None}
 use Rattle.k_operate.specs.k_process.declared.process.Process.{Process}
 use Rattle.k_operate.specs.k_process.Heaps.{value_of}
-use Rattle.k_operate.specs.k_process.Standing.{ComesNext, IsNextOf, ProcessStands}
+use Rattle.k_operate.specs.k_process.BetweenSteps.{ComesNext, IsNextOf, ProcessStands}
 use Rattle.k_operate.specs.Steps.{HasPublishedAll}
 use Rattle.k_complete.proofs.LineKept.{line_can_do, line_can_meet, line_of_none, line_of_some, line_stands, line_there, read_met}
 use Rattle.k_complete.proofs.PlacedKept.{read_there}
 use Rattle.k_complete.proofs.replaying.do_line.Goals as goal
-use Rattle.k_base.proofs.Lists.{same_value}
+use Rattle.k_types.proofs.Lists.{same_value}
 
 pub meet_heap-requires : goal.meet_heap-requires
 meet_heap-requires g c =

@@ -3,7 +3,7 @@ use Rattle.k_types.specs.declared.names.Pid.{Pid}
 use Rattle.k_operate.specs.k_process.Heaps.{value_of}
 use Rattle.k_complete.proofs.ReplayKept.{Files, can_do_line, files_first, files_next, next_known, replayed}
 use Rattle.k_complete.proofs.replaying.replay.Goals as goal
-use Rattle.k_base.proofs.Numbered.{order_next, order_over}
+use Rattle.k_types.proofs.Numbered.{order_next, order_over}
 
 pub loop-pid-init : goal.loop-pid-init
 loop-pid-init g c = record {

@@ -1,7 +1,7 @@
 use Rattle.std.proofs.Common.{map, drop}
 use Rattle.k_types.specs.declared.names.Pid.{Pid}
 use Rattle.k_operate.specs.k_process.Heaps.{value_of}
-use Rattle.k_operate.specs.k_process.Standing.{AllStand, ArePublished}
+use Rattle.k_operate.specs.k_process.BetweenSteps.{AllStand, ArePublished}
 use Rattle.k_complete.proofs.ReplayKept.{Files}
 use Rattle.k_complete.proofs.replaying.replay.Given as goal
 

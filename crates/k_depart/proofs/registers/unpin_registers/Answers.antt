@@ -2,7 +2,7 @@ use Rattle.std.proofs.Common.{◌+◌, ◌∙◌, [], ◌∷◌, Option, option_
 use Rattle.k_types.specs.declared.names.Name.{Name}
 use Rattle.k_types.specs.declared.names.Pid.{Pid}
 use Rattle.k_types.specs.Names.{name_of}
-use Rattle.k_changes.specs.BookChanges.{registers_in}
+use Rattle.k_laws.specs.BookChanges.{registers_in}
 use Rattle.k_commit.specs.k_heap.Heaps.{own_segment}
 use Rattle.k_depart.specs.Registers.{ArePinned, HasLetGo}
 use Rattle.k_depart.proofs.Unpinned.{held_listed, still_pinned, unpinning_goes_on}

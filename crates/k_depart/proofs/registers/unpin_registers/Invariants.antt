@@ -1,4 +1,4 @@
-use Rattle.k_changes.specs.BookChanges.{registers_in}
+use Rattle.k_laws.specs.BookChanges.{registers_in}
 use Rattle.k_commit.specs.k_heap.Heaps.{own_segment}
 use Rattle.k_depart.proofs.Unpinned.{IsUnpinning}
 use Rattle.k_depart.proofs.registers.unpin_registers.Given as goal

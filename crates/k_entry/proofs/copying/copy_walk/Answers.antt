@@ -1,5 +1,5 @@
 use Rattle.std.proofs.Common.{ℕ, Vec, Global, Option, refl, sym, ap, subst, ◌∙◌, arith, vec_capacity, length, slice_get}
-use Rattle.k_base.specs.k_types.declared.names.Name.{Name}
+use Rattle.k_types.specs.declared.names.Name.{Name}
 use Rattle.k_lists.specs.Lists.{members}
 use Rattle.k_lists.proofs.Apart.{apart_in}
 use Rattle.k_entry.specs.Copies.{IsCopied}

@@ -17,7 +17,7 @@ use Rattle.k_filed.proofs.Lines.{few_events, few_last, few_more, order_length}
 use Rattle.k_solo.proofs.Rooms.{history_room}
 use Rattle.k_filed.proofs.running.solo.Goals as goal
 use Rattle.k_filed.proofs.running.solo.Goals.{in-Some+in_ok-do_operation, in_default}
-use Rattle.k_base.proofs.Numbered.{process_known, order_next, order_over}
+use Rattle.k_types.proofs.Numbered.{process_known, order_next, order_over}
 
 -- the process of that number in the order is one of the trace's
 known_at : (trace : Trace) (pids : List Pid) (i : ℕ) → KeepsRules trace → map (λ (pid : Pid). pid.0) pids ≡ trace.order → i < length pids →

@@ -7,7 +7,7 @@ use Rattle.k_types.specs.Complete.{all_ended}
 use Rattle.k_types.specs.FileOrder.{absorptions, last_events, with_end}
 use Rattle.k_types.specs.Steps.{IsRun, run}
 use Rattle.k_state.specs.Machines.{Machine}
-use Rattle.k_frame.proofs.Histories.{legal_front}
+use Rattle.k_laws.proofs.Histories.{legal_front}
 use Rattle.k_filed.specs.Taken.{HasTaken}
 use Rattle.k_filed.proofs.Joined.{tail_legal, tail_taken, taken_room}
 use Rattle.k_filed.proofs.Absorptions.{few_absorptions}

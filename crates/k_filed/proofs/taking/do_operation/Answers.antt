@@ -3,7 +3,7 @@ use Rattle.k_types.specs.declared.event.Event.TheVariants.{Done}
 use Rattle.k_types.specs.FileOrder.{heap_begun, with_end}
 use Rattle.k_types.specs.Replies.{reply_to}
 use Rattle.k_types.specs.Steps.{run}
-use Rattle.k_frame.proofs.Histories.{legal_front}
+use Rattle.k_laws.proofs.Histories.{legal_front}
 use Rattle.k_filed.specs.Taken.{first_events}
 use Rattle.k_filed.proofs.Joined.{tail_legal, tail_taken, taken_room}
 use Rattle.k_filed.proofs.Absorptions.{few_first}

@@ -1,6 +1,6 @@
 use Rattle.std.proofs.Common.{◌∷◌, [], ap, subst, sym, arith, length, ◌∙◌}
 use Rattle.std.proofs.lemmas.List.{length-append}
-use Rattle.k_locked.proofs.Lists.{each_pushed}
+use Rattle.k_process.proofs.Lists.{each_pushed}
 use Rattle.k_guests.specs.Growing.{IsGuestRoom, OfEach}
 use Rattle.k_guests.proofs.Changed.{of_none}
 use Rattle.k_guests.proofs.growing.make_guest_rooms.Goals as goal

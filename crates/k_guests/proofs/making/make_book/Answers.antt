@@ -1,5 +1,5 @@
 use Rattle.k_limits.proofs.Fits.{none_refused}
-use Rattle.k_locked.proofs.Lists.{nothing_is_something}
+use Rattle.k_process.proofs.Lists.{nothing_is_something}
 use Rattle.k_guests.proofs.Made.{book_made}
 use Rattle.k_guests.proofs.making.make_book.Goals as goal
 

@@ -1,7 +1,7 @@
 use Rattle.std.proofs.Common.{◌≡◌}
 use Rattle.k_shared.specs.SharedHeaps.{SharedRecord, opened_shared}
 use Rattle.k_guests.specs.Serving.{SharedServes, basis_of}
-use Rattle.k_locked.proofs.Lists.{ok_weaker}
+use Rattle.k_process.proofs.Lists.{ok_weaker}
 use Rattle.k_guests.proofs.Made.{heap_made}
 use Rattle.k_guests.proofs.making.make_heap.Goals as goal
 

@@ -3,7 +3,7 @@ use Rattle.k_types.specs.declared.names.CellPhase.TheVariants.{Idle}
 use Rattle.k_cell.specs.Holdings.{HoldingsValue}
 use Rattle.k_kernel.specs.Kernels.{opened_kernel}
 use Rattle.k_guests.specs.Serving.{KernelServes, basis_of}
-use Rattle.k_locked.proofs.Lists.{ok_weaker}
+use Rattle.k_process.proofs.Lists.{ok_weaker}
 use Rattle.k_guests.proofs.Made.{kernel_made}
 use Rattle.k_guests.proofs.making.make_kernel.Goals as goal
 

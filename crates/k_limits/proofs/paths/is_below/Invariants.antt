@@ -1,6 +1,6 @@
 use Rattle.std.proofs.Common.{◌≡◌}
-use Rattle.k_base.specs.k_types.Names.{among}
-use Rattle.k_base.specs.k_types.Limits.{ancestors_of}
+use Rattle.k_types.specs.Names.{among}
+use Rattle.k_types.specs.Limits.{ancestors_of}
 use Rattle.k_limits.specs.Paths.{InRows, ancestry_from, steps_left}
 use Rattle.k_limits.proofs.paths.is_below.Given as goal
 

@@ -2,7 +2,7 @@ use Rattle.std.proofs.Common.{◌+◌, ◌==◌, Some, option_map, sym, ap, ◌�
 use Rattle.k_types.specs.declared.event.Reply.TheVariants.{Value}
 use Rattle.k_types.specs.declared.names.Pid.{Pid}
 use Rattle.k_types.specs.Names.{name_of}
-use Rattle.k_frame.specs.PartUpdates.{held_in}
+use Rattle.k_laws.specs.PartUpdates.{held_in}
 use Rattle.k_space.specs.Objects.{content_of}
 use Rattle.k_local.specs.Locals.{int_answer}
 use Rattle.k_local.proofs.Fields.{get_answered}

@@ -1,6 +1,6 @@
 use Rattle.std.proofs.Common.{◌≡◌, List, length, Some, is_some, sym, ap, subst, ◌∙◌, arith}
 use Rattle.k_types.specs.declared.event.Event.{Event}
-use Rattle.k_frame.specs.PartUpdates.{done_in}
+use Rattle.k_laws.specs.PartUpdates.{done_in}
 use Rattle.k_heap.specs.Heaps.{HeapRecord}
 use Rattle.k_local.specs.Locals.{IsMachines, local_answer}
 use Rattle.k_local.proofs.Done.{done_kept, local_seen, tail_kept}

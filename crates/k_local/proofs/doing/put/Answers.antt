@@ -3,7 +3,7 @@ use Rattle.k_types.specs.declared.event.Reply.{Reply}
 use Rattle.k_types.specs.declared.names.Pid.{Pid}
 use Rattle.k_types.specs.Names.{name_of}
 use Rattle.k_types.specs.State.{Holds}
-use Rattle.k_frame.specs.PartUpdates.{held_in}
+use Rattle.k_laws.specs.PartUpdates.{held_in}
 use Rattle.k_heap.specs.Looks.{found_among}
 use Rattle.k_local.specs.Locals.{IsChanged, written_through}
 use Rattle.k_local.proofs.Fields.{put_answered, put_changed}

@@ -6,7 +6,7 @@ use Rattle.k_types.specs.declared.names.Pid.{Pid}
 use Rattle.k_types.specs.Local.{is_own}
 use Rattle.k_types.specs.Names.{name_of}
 use Rattle.k_types.specs.State.{Refers}
-use Rattle.k_frame.specs.PartUpdates.{held_in}
+use Rattle.k_laws.specs.PartUpdates.{held_in}
 use Rattle.k_space.specs.Objects.{content_of}
 use Rattle.k_heap.specs.Changes.{with_stored}
 use Rattle.k_heap.specs.Looks.{found_among}

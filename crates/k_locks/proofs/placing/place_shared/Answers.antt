@@ -1,7 +1,7 @@
 use Rattle.std.proofs.Common.{sym, ap, ◌∙◌, subst, set, Option, Some, None}
 use Rattle.k_types.specs.declared.names.SharedId.{SharedId}
 use Rattle.k_tie.specs.Values.{NoteValue}
-use Rattle.k_process.specs.SharedHeaps.{SharedRecord}
+use Rattle.k_process.specs.k_shared.SharedHeaps.{SharedRecord}
 use Rattle.k_locks.specs.Places.{HasPlacedShared}
 use Rattle.k_locks.proofs.Gathered.{one_shared_number, placed_shared}
 use Rattle.k_process.proofs.Looped.{found_at}

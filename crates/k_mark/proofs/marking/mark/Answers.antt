@@ -2,10 +2,9 @@ use Rattle.std.proofs.Common.{◌≡◌, ◌+◌, List, false, refl, sym, ap, su
 use Rattle.k_exit.proofs.BaseLists.{some_one}
 use Rattle.k_laws.specs.k_types.State.{Content}
 use Rattle.k_space.specs.Visiting.{AreHeld}
-use Rattle.k_space.specs.Areas.{AreaValue, gray_at, unmarked}
+use Rattle.k_space.specs.Areas.{AreaValue, gray_at, unmarked, HasDistinct}
 use Rattle.k_mark.proofs.Left.{left, black_work}
 use Rattle.k_mark.proofs.Marked.{demands, IsMarking, begun, stepped, less_left, more_work, fields_now, marked_is, exits_is, still_live, demand_now, looked_now}
-use Rattle.k_space.specs.Areas.{HasDistinct}
 use Rattle.k_space.specs.Segments.{Black}
 use Rattle.k_space.proofs.AreaRows.{found, after_distinct}
 use Rattle.k_mark.proofs.Work.{none_black, work_is}

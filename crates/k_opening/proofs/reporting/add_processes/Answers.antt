@@ -1,5 +1,5 @@
 use Rattle.std.proofs.Common.{ap, ◌∙◌, arith}
-use Rattle.k_bounds.specs.Counts.{stores_in}
+use Rattle.k_laws.specs.Counts.{stores_in}
 use Rattle.k_still.proofs.Passes.{own_short}
 use Rattle.k_opening.proofs.Reported.{all_processes_added, one_process_added}
 use Rattle.k_opening.proofs.reporting.add_processes.Goals as goal

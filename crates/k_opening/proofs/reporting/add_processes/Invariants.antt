@@ -1,5 +1,5 @@
 use Rattle.std.proofs.Common.{◌≡◌, ◌++◌, map, take}
-use Rattle.k_bounds.specs.Counts.{stores_in}
+use Rattle.k_laws.specs.Counts.{stores_in}
 use Rattle.k_trace.specs.Meaning.{meaning_of}
 use Rattle.k_opening.proofs.reporting.add_processes.Given as goal
 

@@ -2,7 +2,7 @@ use Rattle.std.proofs.Common.{◌≡◌, ◌-◌, ◌++◌, length}
 use Rattle.k_types.specs.FileOrder.{absorptions}
 use Rattle.k_types.specs.Steps.{state_after}
 use Rattle.k_agree.specs.Rooms.{event_room}
-use Rattle.k_process.specs.Standing.{RestStands}
+use Rattle.k_process.specs.BetweenSteps.{RestStands}
 use Rattle.k_operate.proofs.absorbing.absorb_orphans.Given as goal
 
 abbrev pub ghost-absorb_orphan : goal.ghost-absorb_orphan

@@ -1,5 +1,5 @@
 use Rattle.std.proofs.Common.{◌<◌, ◌∙◌, refl, sym, subst, []}
-use Rattle.k_moves.specs.Shown.{idle_part}
+use Rattle.k_agree.specs.Shown.{idle_part}
 use Rattle.k_process.proofs.Looped.{found_at}
 use Rattle.k_operate.proofs.HeapsReached.{heap_reached}
 use Rattle.k_operate.proofs.Killed.{reaches_no_end}

@@ -3,7 +3,7 @@ use Rattle.std.proofs.lemmas.List.{take_all, take_more}
 use Rattle.std.proofs.lemmas.List.Sorted.{answers_always}
 use Rattle.std.proofs.lemmas.Option.{get_or_from_slice_get}
 use Rattle.k_types.specs.declared.names.Name.{Name}
-use Rattle.k_base.specs.Distinct.{AreDistinctNames}
+use Rattle.k_types.specs.Distinct.{AreDistinctNames}
 use Rattle.k_text.specs.Shown.{in_order}
 use Rattle.k_outcome.specs.Cells.{cell_at}
 use Rattle.k_outcome.proofs.Sorted.{sorted_names}

@@ -1,10 +1,9 @@
 use Rattle.std.proofs.Common.{◌+◌, ◌<◌, ◌^◌, sym, ap, subst, ◌∙◌, Some}
-use Rattle.k_types.specs.declared.event.Reply.TheVariants.{Made}
+use Rattle.k_types.specs.declared.event.Reply.TheVariants.{Made, Refused}
 use Rattle.k_types.specs.declared.names.Name.{Name}
 use Rattle.k_types.specs.declared.names.Pid.{Pid}
 use Rattle.k_types.specs.declared.op.Op.TheVariants.{New}
 use Rattle.k_types.specs.declared.event.Fault.TheVariants.{LimitFull}
-use Rattle.k_types.specs.declared.event.Reply.TheVariants.{Refused}
 use Rattle.k_types.specs.Names.{name_of}
 use Rattle.k_types.specs.Owners.{object_bytes}
 use Rattle.k_types.specs.Totals.{total}

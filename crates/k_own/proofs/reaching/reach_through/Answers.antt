@@ -2,7 +2,7 @@ use Rattle.std.proofs.Common.{ap, subst, sym, ◌∙◌, option_map}
 use Rattle.k_types.specs.declared.names.Pid.{Pid}
 use Rattle.k_types.specs.Agree.{book_shown_by}
 use Rattle.k_types.specs.Names.{name_of}
-use Rattle.k_squares.specs.Touches.{access_cell_in, base_cell_in}
+use Rattle.k_laws.specs.Touches.{access_cell_in, base_cell_in}
 use Rattle.k_own.specs.Reaching.{CanReachOwner}
 use Rattle.k_own.proofs.Told.{held_at_home, owner_shown, reaches_owner}
 use Rattle.k_own.proofs.reaching.reach_through.Goals as goal

@@ -2,7 +2,7 @@ use Rattle.std.proofs.Common.{◌≡◌, refl, None, Some}
 use Rattle.k_types.specs.declared.event.Reply.TheVariants.{Done}
 use Rattle.k_types.specs.declared.op.Op.TheVariants.{Clear}
 use Rattle.k_types.specs.Agree.{book_shown_by}
-use Rattle.k_commit.specs.k_moves.Shown.{idle_part}
+use Rattle.k_commit.specs.k_agree.Shown.{idle_part}
 use Rattle.k_commit.proofs.Given.{clear_alone}
 use Rattle.k_own.proofs.Due.{can_set, clear_below, set_alone}
 use Rattle.k_own.proofs.registers.clear.Goals as goal

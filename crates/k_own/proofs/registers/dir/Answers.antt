@@ -4,7 +4,7 @@ use Rattle.k_types.specs.declared.names.Name.{Name}
 use Rattle.k_types.specs.declared.op.Op.TheVariants.{Dir}
 use Rattle.k_types.specs.Agree.{book_shown_by}
 use Rattle.k_types.specs.Names.{directory}
-use Rattle.k_commit.specs.k_moves.Shown.{idle_part}
+use Rattle.k_commit.specs.k_agree.Shown.{idle_part}
 use Rattle.k_commit.proofs.Given.{dir_alone}
 use Rattle.k_commit.specs.Changed.{HasSetRegister}
 use Rattle.k_own.proofs.Due.{can_set, dir_below, set_alone}

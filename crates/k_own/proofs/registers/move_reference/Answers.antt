@@ -5,7 +5,7 @@ use Rattle.k_types.specs.declared.op.Op.TheVariants.{Move}
 use Rattle.k_types.specs.Agree.{book_shown_by}
 use Rattle.k_types.specs.Names.{name_of}
 use Rattle.k_commit.specs.Changed.{HasSetRegister}
-use Rattle.k_commit.specs.k_moves.Shown.{idle_part}
+use Rattle.k_commit.specs.k_agree.Shown.{idle_part}
 use Rattle.k_commit.proofs.Given.{move_alone}
 use Rattle.k_own.proofs.Due.{can_set, held_before, held_there, move_below, set_alone}
 use Rattle.k_own.proofs.registers.move_reference.Goals as goal

@@ -7,7 +7,7 @@ use Rattle.k_types.specs.Replies.{first_fault, is_ref}
 use Rattle.k_commit.specs.k_cell.Looks.{field_among, field_count_among}
 use Rattle.k_limits.proofs.Making.{handed_on}
 use Rattle.k_space.specs.Objects.{content_of}
-use Rattle.k_squares.specs.Answers.{is_frozen_in, passes_barrier_in}
+use Rattle.k_laws.specs.Answers.{is_frozen_in, passes_barrier_in}
 use Rattle.k_pair.specs.Faults.{store_faults_of}
 use Rattle.k_pair.specs.Remembered.{owners_of}
 use Rattle.k_pair.proofs.Faulted.{barred_last, field_first, frozen_next, none_at_all, told_by}

@@ -3,7 +3,7 @@ use Rattle.k_types.specs.declared.names.Kind.{Kind}
 use Rattle.k_types.specs.declared.names.Name.{Name}
 use Rattle.k_types.specs.Barrier.{legal_store}
 use Rattle.k_types.specs.Names.{heap_eq, kind_of, name_of}
-use Rattle.k_squares.specs.Answers.{passes_barrier_in}
+use Rattle.k_laws.specs.Answers.{passes_barrier_in}
 use Rattle.k_pair.proofs.barring.passes.Goals as goal
 
 pub returns : goal.returns

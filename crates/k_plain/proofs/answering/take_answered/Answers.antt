@@ -2,7 +2,7 @@ use Rattle.std.proofs.Common.{◌≡◌, ℕ, List, ap, ◌∙◌, get_or, arith
 use Rattle.k_types.specs.State.{State}
 use Rattle.k_types.specs.Replies.{faults, first_fault}
 use Rattle.k_plain.proofs.answering.take_answered.Goals as goal
-use Rattle.k_frame.proofs.Effects.{unless_done}
+use Rattle.k_laws.proofs.Effects.{unless_done}
 
 pub count_done-requires-clause-room : goal.count_done-requires-clause-room
 count_done-requires-clause-room c =

@@ -1,6 +1,6 @@
 use Rattle.std.proofs.Common.{◌≡◌, ◌+◌, ◌==◌, List, true, ap, sym, ◌∙◌, length, arith}
 use Rattle.std.proofs.lemmas.List.{length-append}
-use Rattle.k_base.proofs.Lists.{length-kept}
+use Rattle.k_types.proofs.Lists.{length-kept}
 use Rattle.k_types.specs.declared.names.Heap.{Heap}
 use Rattle.k_types.specs.Names.{heap_eq}
 use Rattle.k_types.specs.Owners.{owner_of}

@@ -1,4 +1,4 @@
-use Rattle.k_setup.proofs.Held.{held_known}
+use Rattle.k_laws.proofs.Held.{held_known}
 use Rattle.k_plain.proofs.effects.take_effect.Goals as goal
 
 pub freeze-requires-clause-known : goal.freeze-requires-clause-known

@@ -6,7 +6,7 @@ use Rattle.k_types.specs.Known.{IsKnownEvent}
 use Rattle.k_types.specs.State.{State}
 use Rattle.k_types.specs.Steps.{state_after}
 use Rattle.k_types.specs.Trace.{Trace, trace_of}
-use Rattle.k_known.proofs.Laws.{events_are_known}
+use Rattle.k_laws.proofs.KnownLaws.{events_are_known}
 use Rattle.k_limits.proofs.Making.{handed_on}
 use Rattle.k_solo.specs.Runs.{Run}
 use Rattle.k_print.specs.Printed.{IsNotPrinted, journal_of}

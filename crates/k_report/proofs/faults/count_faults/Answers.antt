@@ -1,5 +1,4 @@
-use Rattle.std.proofs.Common.{ℕ, sym, ap, ◌∙◌}
-use Rattle.std.proofs.Common.{◌+◌}
+use Rattle.std.proofs.Common.{ℕ, sym, ap, ◌∙◌, ◌+◌}
 use Rattle.k_text.specs.Report.{is_fault_of}
 use Rattle.k_report.proofs.Counting.{count_yes, count_no}
 use Rattle.k_report.proofs.faults.count_faults.Goals.{then-is_fault_of, else-is_fault_of}

@@ -6,7 +6,7 @@ use Rattle.k_text.specs.Report.{object_line, content_word}
 use Rattle.k_report.proofs.Known.{named_heap, named_type}
 use Rattle.k_report.proofs.LineLemmas.{writes_line, line_behind_three}
 use Rattle.k_report.proofs.graph.put_object.Goals as goal
-use Rattle.k_base.proofs.Owners.{owner_known}
+use Rattle.k_types.proofs.Owners.{owner_known}
 
 pub heap_name-requires : goal.heap_name-requires
 heap_name-requires g c =

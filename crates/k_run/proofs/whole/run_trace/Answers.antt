@@ -3,7 +3,7 @@ use Rattle.std.specs.Prelude.{IfOk}
 use Rattle.k_types.specs.Trace.{Trace}
 use Rattle.k_opening.specs.k_outcome.k_process.Worlds.{WorldValue}
 use Rattle.k_opening.specs.k_outcome.k_process.Heaps.{value_of}
-use Rattle.k_opening.specs.k_outcome.k_process.Standing.{AllStand}
+use Rattle.k_opening.specs.k_outcome.k_process.BetweenSteps.{AllStand}
 use Rattle.k_opening.specs.k_still.Opening.{IsSetupOf}
 use Rattle.k_opening.specs.k_outcome.Listed.{AreRoomsFor}
 use Rattle.k_trace.specs.Meaning.{meaning_of}

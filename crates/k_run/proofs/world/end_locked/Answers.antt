@@ -1,5 +1,5 @@
 use Rattle.std.proofs.Common.{refl}
-use Rattle.k_setup.specs.Setups.{setup_of}
+use Rattle.k_laws.specs.Setups.{setup_of}
 use Rattle.k_opening.specs.k_outcome.k_process.Heaps.{value_of}
 use Rattle.k_opening.proofs.OverByMeeting.{met_ends}
 use Rattle.k_opening.proofs.ShownOn.{was_shown}

@@ -1,7 +1,7 @@
 use Rattle.std.proofs.Common.{◌≡◌, ℕ, ◌<◌, [], length, map, get_or}
 use Rattle.k_types.specs.Trace.{segment_count}
 use Rattle.k_text.specs.Shown.{exits_of}
-use Rattle.k_shown.specs.Heaps.{heap_at}
+use Rattle.k_text.specs.Heaps.{heap_at}
 use Rattle.k_solo.proofs.targets.all_targets.Given as goal
 
 abbrev pub invariant-loop-seg : goal.invariant-loop-seg

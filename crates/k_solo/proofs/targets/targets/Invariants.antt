@@ -1,5 +1,5 @@
 use Rattle.std.proofs.Common.{◌≡◌, ◌++◌, drop}
-use Rattle.k_shown.proofs.Sorted.{targets_of}
+use Rattle.k_text.proofs.Sorted.{targets_of}
 use Rattle.k_solo.proofs.targets.targets.Given as goal
 
 abbrev pub invariant-loop-item : goal.invariant-loop-item

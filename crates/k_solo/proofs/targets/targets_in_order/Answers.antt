@@ -1,7 +1,7 @@
 use Rattle.std.proofs.Common.{arith, rules}
 use Rattle.std.proofs.lemmas.List.Sorted.{answers_always}
 use Rattle.k_types.specs.declared.names.Name.{Name}
-use Rattle.k_shown.proofs.Sorted.{sorted_exits}
+use Rattle.k_text.proofs.Sorted.{sorted_exits}
 use Rattle.k_solo.proofs.targets.targets_in_order.Goals as goal
 
 pub returns : goal.returns

@@ -4,7 +4,7 @@ use Rattle.k_types.specs.Trace.{operations_of}
 use Rattle.k_trace.specs.Meaning.{meaning_of}
 use Rattle.k_spell.proofs.Ordered.{few_next, listed, listed_at, low_in, named_at, no_pid, none_done, order_next, operation_added}
 use Rattle.k_spell.proofs.operations.add_operations.Goals as goal
-use Rattle.k_frame.proofs.Sizes.{zeros_at}
+use Rattle.k_laws.proofs.Sizes.{zeros_at}
 
 pub loop-pid-init : goal.loop-pid-init
 loop-pid-init c = record {

@@ -1,6 +1,6 @@
 use Rattle.std.proofs.Common.{◌≡◌, ◌+◌, ◌++◌, ◌∷◌, [], ap, sym, ◌∙◌, take, arith}
 use Rattle.std.proofs.lemmas.List.{take_more}
-use Rattle.k_frame.proofs.Sums.{total_push}
+use Rattle.k_laws.proofs.Sums.{total_push}
 use Rattle.k_types.specs.Owners.{object_bytes}
 use Rattle.k_types.specs.State.{Object}
 use Rattle.k_types.specs.Totals.{total}

@@ -1,5 +1,5 @@
 use Rattle.std.proofs.Common.{ap, ◌∙◌, arith}
-use Rattle.k_bounds.specs.Counts.{stores_in}
+use Rattle.k_laws.specs.Counts.{stores_in}
 use Rattle.k_still.proofs.Begun.{process_begins}
 use Rattle.k_still.proofs.beginning.open_process.Goals as goal
 

@@ -1,5 +1,5 @@
 use Rattle.std.proofs.Common.{ap, ◌∙◌, arith}
-use Rattle.k_bounds.specs.Counts.{stores_in}
+use Rattle.k_laws.specs.Counts.{stores_in}
 use Rattle.k_still.proofs.Passes.{own_short, stores_all, stores_fit, stores_more}
 use Rattle.k_still.proofs.rooms.all_stores.Goals as goal
 

@@ -1,5 +1,5 @@
 use Rattle.std.proofs.Common.{◌≡◌, take}
-use Rattle.k_bounds.specs.Counts.{stores_in}
+use Rattle.k_laws.specs.Counts.{stores_in}
 use Rattle.k_types.specs.Totals.{total}
 use Rattle.k_trace.specs.Meaning.{meaning_of}
 use Rattle.k_still.proofs.rooms.all_stores.Given as goal

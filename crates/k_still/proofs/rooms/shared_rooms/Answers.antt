@@ -1,6 +1,6 @@
 use Rattle.std.proofs.Common.{◌≡◌, ◌+◌, List, ℕ, length, refl, sym, ap, ap₂, ◌∙◌, subst, arith}
 use Rattle.k_types.specs.declared.op.Op.{Op}
-use Rattle.k_bounds.specs.Counts.{stores_in}
+use Rattle.k_laws.specs.Counts.{stores_in}
 use Rattle.k_trace.specs.Meaning.{meaning_of}
 use Rattle.k_process.proofs.Looped.{all_of}
 use Rattle.k_still.specs.Opening.{CanRaise, raised}

@@ -2,11 +2,11 @@ use Rattle.std.proofs.Common.{Ok, ap, subst, sym}
 use Rattle.k_io.specs.declared.errors.WriteFailed.{WriteFailed}
 use Rattle.k_io.proofs.Writings.{writes_same}
 use Rattle.k_text.specs.Named.{AreNamed}
-use Rattle.k_runner.specs.k_run.k_outcome.Ends.{EndValue, last_state}
+use Rattle.k_run.specs.k_outcome.Ends.{EndValue, last_state}
 use Rattle.k_answers.specs.k_audit.Snapshots.{snapshot_text}
 use Rattle.k_status.specs.declared.status.Status.TheVariants.{Good}
 use Rattle.k_status.proofs.Answered.{answered_written}
-use Rattle.k_runner.proofs.Runs.{error_told, replay_named}
+use Rattle.k_run.proofs.Runs.{error_told, replay_named}
 use Rattle.k_top.proofs.Snaps.{snap_told}
 use Rattle.k_status.proofs.Written.{never_unwritten, written_by}
 use Rattle.k_top.proofs.snapping.snap_file.Goals as goal

@@ -1,9 +1,9 @@
 use Rattle.std.proofs.Common.{◌∷◌, ◌++◌, [], List, length, ap, arith, refl, sym, subst, ◌∙◌}
 use Rattle.std.proofs.lemmas.List.{length_push}
-use Rattle.k_runner.specs.k_run.k_watch.declared.sample.Sample.{Sample}
-use Rattle.k_runner.specs.k_run.k_watch.Samples.{AllBelow, IsRising}
-use Rattle.k_runner.specs.k_run.k_watch.Values.{WatcherValue}
-use Rattle.k_runner.proofs.SampleLists.{rising_one_more}
+use Rattle.k_run.specs.k_watch.declared.sample.Sample.{Sample}
+use Rattle.k_run.specs.k_watch.Samples.{AllBelow, IsRising}
+use Rattle.k_run.specs.k_watch.Values.{WatcherValue}
+use Rattle.k_run.proofs.SampleLists.{rising_one_more}
 use Rattle.k_top.proofs.watched.take_samples.Goals as goal
 
 pub push_reserved-requires : goal.push_reserved-requires

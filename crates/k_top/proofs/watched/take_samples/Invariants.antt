@@ -1,5 +1,5 @@
 use Rattle.std.proofs.Common.{◌≡◌, ◌+◌, ◌≤◌, length, vec_capacity}
-use Rattle.k_runner.specs.k_run.k_watch.Samples.{IsRising}
+use Rattle.k_run.specs.k_watch.Samples.{IsRising}
 use Rattle.k_top.proofs.watched.take_samples.Given as goal
 
 abbrev pub invariant-loop-taken : goal.invariant-loop-taken

@@ -1,15 +1,15 @@
 use Rattle.std.proofs.Common.{sym, subst}
 use Rattle.std.specs.Prelude.{IfOk}
 use Rattle.k_types.specs.Trace.{Trace}
-use Rattle.k_runner.specs.k_run.k_outcome.k_process.Worlds.{WorldValue}
-use Rattle.k_runner.specs.k_run.k_outcome.k_process.Heaps.{value_of}
-use Rattle.k_runner.specs.k_run.k_outcome.k_process.Standing.{AllStand}
-use Rattle.k_runner.specs.k_run.k_opening.k_still.Opening.{IsSetupOf}
-use Rattle.k_runner.specs.k_run.k_outcome.Listed.{AreRoomsFor}
+use Rattle.k_run.specs.k_outcome.k_process.Worlds.{WorldValue}
+use Rattle.k_run.specs.k_outcome.k_process.Heaps.{value_of}
+use Rattle.k_run.specs.k_outcome.k_process.BetweenSteps.{AllStand}
+use Rattle.k_run.specs.k_opening.k_still.Opening.{IsSetupOf}
+use Rattle.k_run.specs.k_outcome.Listed.{AreRoomsFor}
 use Rattle.k_trace.specs.Meaning.{meaning_of}
 use Rattle.k_trace.specs.Named.{NamedTrace}
 use Rattle.k_top.specs.Watched.{IsWatchedRunOf}
-use Rattle.k_runner.proofs.Told.{named_told, trace_told, world_told}
+use Rattle.k_run.proofs.Told.{named_told, trace_told, world_told}
 use Rattle.k_top.proofs.watched.watch_trace.Goals as goal
 
 pub watch_still-requires-clause-stands : goal.watch_still-requires-clause-stands

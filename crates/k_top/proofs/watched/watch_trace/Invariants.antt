@@ -1,5 +1,5 @@
 use Rattle.std.proofs.Common.{Some}
-use Rattle.k_runner.specs.k_run.Opened.{world_in}
+use Rattle.k_run.specs.Opened.{world_in}
 use Rattle.k_top.proofs.watched.watch_trace.Given as goal
 
 abbrev pub ghosts-watch_still : goal.ghosts-watch_still

@@ -1,7 +1,7 @@
 use Rattle.std.proofs.Common.{ap, subst, vec_capacity}
 use Rattle.k_trace.specs.Named.{DeclaredNames}
-use Rattle.k_runner.specs.k_run.Runs.{IsRunOf}
-use Rattle.k_runner.specs.k_run.Worlds.{RunValue}
+use Rattle.k_run.specs.Runs.{IsRunOf}
+use Rattle.k_run.specs.Worlds.{RunValue}
 use Rattle.k_top.proofs.WatchedRuns.{watched_run}
 use Rattle.k_top.proofs.watched.watch_world.Goals as goal
 

@@ -1,7 +1,7 @@
 use Rattle.k_io.specs.declared.errors.WriteFailed.{WriteFailed}
 use Rattle.k_status.specs.declared.status.Status.TheVariants.{Good}
 use Rattle.k_status.proofs.Answered.{answered_written}
-use Rattle.k_runner.proofs.Runs.{error_told}
+use Rattle.k_run.proofs.Runs.{error_told}
 use Rattle.k_top.proofs.Runs.{watch_named, watch_told_as}
 use Rattle.k_status.proofs.Written.{never_unwritten, written_by}
 use Rattle.k_top.proofs.watching.watch_file.Goals as goal

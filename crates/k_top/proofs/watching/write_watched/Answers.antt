@@ -2,7 +2,7 @@ use Rattle.std.proofs.Common.{ap, subst, sym}
 use Rattle.k_text.specs.Named.{AreNamed}
 use Rattle.k_text.specs.Report.{text_over}
 use Rattle.k_io.proofs.Writings.{writes_same, writes_then}
-use Rattle.k_runner.specs.k_run.k_outcome.Ends.{EndValue, journal_of, last_state}
+use Rattle.k_run.specs.k_outcome.Ends.{EndValue, journal_of, last_state}
 use Rattle.k_answers.specs.Samples.{samples_text}
 use Rattle.k_status.proofs.Written.{writes_missing}
 use Rattle.k_top.proofs.watching.write_watched.Goals as goal

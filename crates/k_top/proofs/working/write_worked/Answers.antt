@@ -2,7 +2,7 @@ use Rattle.std.proofs.Common.{◌≤◌, length, ap, subst, sym, arith}
 use Rattle.k_text.specs.Named.{AreNamed}
 use Rattle.k_text.specs.Report.{text_over}
 use Rattle.k_io.proofs.Writings.{writes_same, writes_then}
-use Rattle.k_runner.specs.k_run.k_outcome.Ends.{EndValue, journal_of, last_state}
+use Rattle.k_run.specs.k_outcome.Ends.{EndValue, journal_of, last_state}
 use Rattle.k_answers.specs.k_work.Lines.{work_text}
 use Rattle.k_status.proofs.Written.{writes_missing}
 use Rattle.k_top.proofs.working.write_worked.Goals as goal

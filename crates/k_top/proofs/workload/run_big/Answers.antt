@@ -1,7 +1,7 @@
 use Rattle.std.proofs.Common.{subst}
 use Rattle.std.specs.Prelude.{IfOk}
 use Rattle.k_trace.specs.Named.{NamedTrace}
-use Rattle.k_runner.specs.k_run.Runs.{IsRunOf}
+use Rattle.k_run.specs.Runs.{IsRunOf}
 use Rattle.k_top.proofs.workload.run_big.Goals as goal
 
 pub run_trace-requires : goal.run_trace-requires

@@ -2,7 +2,7 @@ use Rattle.std.proofs.Common.{sym, subst}
 use Rattle.k_types.specs.declared.op.Op.TheVariants.{KCollect}
 use Rattle.k_locks.specs.k_process.k_heap.Heaps.{HeapRecord}
 use Rattle.k_operate.proofs.Since.{next_since}
-use Rattle.k_locks.specs.k_process.Standing.{ComesNext, HasDone}
+use Rattle.k_locks.specs.k_process.BetweenSteps.{ComesNext, HasDone}
 use Rattle.k_worker.specs.Running.{WaitsToCollect}
 use Rattle.k_worker.proofs.Stepped.{done_after, may_wait, next_settled, published_left}
 use Rattle.k_worker.proofs.Shows.{one_grows, published_grows}

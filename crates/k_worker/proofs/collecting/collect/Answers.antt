@@ -1,7 +1,7 @@
 use Rattle.std.proofs.Common.{subst}
 use Rattle.k_types.specs.declared.op.Op.TheVariants.{Collect}
 use Rattle.k_locks.specs.k_process.k_heap.Heaps.{HeapRecord}
-use Rattle.k_locks.specs.k_process.Standing.{HasDone}
+use Rattle.k_locks.specs.k_process.BetweenSteps.{HasDone}
 use Rattle.k_worker.proofs.Stepped.{done_before}
 use Rattle.k_worker.proofs.collecting.collect.Goals as goal
 

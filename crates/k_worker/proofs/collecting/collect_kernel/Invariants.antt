@@ -1,6 +1,6 @@
 use Rattle.k_types.specs.declared.op.Op.TheVariants.{KCollect}
 use Rattle.k_operate.specs.Collecting.{HasSameLeft}
-use Rattle.k_locks.specs.k_process.Standing.{ComesNext}
+use Rattle.k_locks.specs.k_process.BetweenSteps.{ComesNext}
 use Rattle.k_worker.proofs.collecting.collect_kernel.Given as goal
 
 abbrev pub invariant-loop : goal.invariant-loop

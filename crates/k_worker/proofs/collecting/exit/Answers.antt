@@ -1,7 +1,7 @@
 use Rattle.std.proofs.Common.{sym, subst}
 use Rattle.k_types.specs.declared.op.Op.TheVariants.{Exit}
 use Rattle.k_locks.specs.k_process.k_heap.Heaps.{HeapRecord}
-use Rattle.k_locks.specs.k_process.Standing.{ComesNext, HasDone}
+use Rattle.k_locks.specs.k_process.BetweenSteps.{ComesNext, HasDone}
 use Rattle.k_worker.proofs.Stepped.{done_after, next_settled, published_left}
 use Rattle.k_worker.proofs.Shows.{operation_grows, published_grows}
 use Rattle.k_locks.proofs.ShownOn.{was_shown}

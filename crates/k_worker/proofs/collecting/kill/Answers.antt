@@ -2,7 +2,7 @@ use Rattle.std.proofs.Common.{ap, ◌∙◌, sym, subst}
 use Rattle.k_types.specs.declared.op.Op.TheVariants.{Kill}
 use Rattle.k_locks.specs.k_process.k_heap.Heaps.{HeapRecord}
 use Rattle.k_operate.specs.Collecting.{HasSameLeft}
-use Rattle.k_locks.specs.k_process.Standing.{ComesNext, HasDone}
+use Rattle.k_locks.specs.k_process.BetweenSteps.{ComesNext, HasDone}
 use Rattle.k_worker.proofs.Shows.{kill_grows}
 use Rattle.k_locks.proofs.ShownOn.{was_shown}
 use Rattle.k_worker.proofs.collecting.kill.Goals as goal

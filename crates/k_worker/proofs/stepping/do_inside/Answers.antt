@@ -1,6 +1,6 @@
 use Rattle.std.proofs.Common.{sym, subst}
 use Rattle.k_locks.specs.k_process.k_heap.Heaps.{HeapRecord}
-use Rattle.k_locks.specs.k_process.Standing.{ComesNext}
+use Rattle.k_locks.specs.k_process.BetweenSteps.{ComesNext}
 use Rattle.k_worker.specs.Running.{HasDoneUnless}
 use Rattle.k_worker.proofs.Stepped.{inside_unless}
 use Rattle.k_worker.proofs.stepping.do_inside.Goals as goal

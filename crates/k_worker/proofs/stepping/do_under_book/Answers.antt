@@ -3,11 +3,11 @@ use Rattle.k_types.specs.declared.names.Heap.TheVariants.{Kernel, Shared, User}
 use Rattle.k_types.specs.Agree.{book_shown_by}
 use Rattle.k_locks.specs.k_process.k_heap.Heaps.{HeapRecord}
 use Rattle.k_operate.specs.Reach.{Reach}
-use Rattle.k_moves.specs.Shown.{idle_part}
-use Rattle.k_moves.proofs.Killing.{ends_by}
+use Rattle.k_agree.specs.Shown.{idle_part}
+use Rattle.k_agree.proofs.Killing.{ends_by}
 use Rattle.k_operate.specs.Readiness.{IsOutside}
 use Rattle.k_operate.proofs.Since.{can_reach, due, next_since, ready_since}
-use Rattle.k_locks.specs.k_process.Standing.{HasDone}
+use Rattle.k_locks.specs.k_process.BetweenSteps.{HasDone}
 use Rattle.k_worker.specs.Running.{IsReadyFor}
 use Rattle.k_worker.proofs.Stepped.{done_after, published_left, ready_beside}
 use Rattle.k_worker.proofs.Shows.{operation_grows, published_grows}

@@ -5,7 +5,7 @@ use Rattle.k_worker.specs.Running.{HasDoneBeside}
 use Rattle.k_worker.proofs.Stepped.{none_reached, not_done, shared_not_kernel, two_reached, was_done}
 use Rattle.k_locks.specs.k_process.k_heap.Heaps.{HeapRecord}
 use Rattle.k_operate.specs.Readiness.{IsReady}
-use Rattle.k_locks.specs.k_process.Standing.{ComesNext}
+use Rattle.k_locks.specs.k_process.BetweenSteps.{ComesNext}
 use Rattle.k_operate.proofs.Since.{can_reach, due}
 use Rattle.k_worker.proofs.Shows.{operation_grows}
 use Rattle.k_locks.proofs.ShownOn.{was_shown}

@@ -4,7 +4,7 @@ use Rattle.k_locks.specs.k_process.k_book.Books.{BookRecord}
 use Rattle.k_worker.specs.Running.{HasDoneBeside}
 use Rattle.k_worker.proofs.Stepped.{kernel_not_shared, none_reached, not_done, two_reached}
 use Rattle.k_locks.specs.k_process.k_heap.Heaps.{HeapRecord}
-use Rattle.k_locks.specs.k_process.Standing.{ComesNext}
+use Rattle.k_locks.specs.k_process.BetweenSteps.{ComesNext}
 use Rattle.k_operate.proofs.Since.{can_reach}
 use Rattle.k_worker.proofs.Shows.{operation_grows}
 use Rattle.k_locks.proofs.ShownOn.{was_shown}

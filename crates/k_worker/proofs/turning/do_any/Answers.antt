@@ -1,7 +1,7 @@
 use Rattle.std.proofs.Common.{subst}
 use Rattle.k_types.specs.declared.op.Op.TheVariants.{Collect, Exit, KCollect}
 use Rattle.k_operate.proofs.Since.{steps_else}
-use Rattle.k_locks.specs.k_process.Standing.{ComesNext}
+use Rattle.k_locks.specs.k_process.BetweenSteps.{ComesNext}
 use Rattle.k_worker.proofs.Stepped.{turn_of}
 use Rattle.k_worker.proofs.turning.do_any.Goals as goal
 

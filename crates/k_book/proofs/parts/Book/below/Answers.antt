@@ -2,7 +2,7 @@ use Rattle.std.proofs.Common.{◌<◌, ap, sym, ◌∙◌, subst, List, length, 
 use Rattle.k_types.specs.declared.setup.LimitRow.{LimitRow}
 use Rattle.k_types.specs.Limits.{ancestors_of}
 use Rattle.k_types.specs.Names.{among}
-use Rattle.k_base.proofs.Ancestors.{ancestors_in}
+use Rattle.k_types.proofs.Ancestors.{ancestors_in}
 use Rattle.k_book.proofs.Resized.{count_seen, rows_seen}
 use Rattle.k_book.proofs.parts.Book.below.Goals as goal
 

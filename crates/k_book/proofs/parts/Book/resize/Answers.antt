@@ -1,7 +1,7 @@
 use Rattle.std.proofs.Common.{◌≡◌, ◌<◌, ◌≤◌, ap, ap₂, sym, ◌∙◌, subst, None, List, length, slice_set, is_some, replicate}
 use Rattle.k_types.specs.declared.setup.LimitRow.{LimitRow}
 use Rattle.k_types.specs.Trace.{row_of}
-use Rattle.k_base.proofs.Maxima.{parent_in}
+use Rattle.k_types.proofs.Maxima.{parent_in}
 use Rattle.k_limits.specs.Limits.{ChargedLimits, use_at}
 use Rattle.k_limits.specs.Resizes.{ExplainsResize, full_for_at, with_max_at}
 use Rattle.k_limits.proofs.Making.{handed_on}

@@ -1,9 +1,9 @@
 use Rattle.std.proofs.Common.{◌≡◌, not, length, inl, inr, sym, ap, ◌∙◌, arith}
 use Rattle.std.proofs.lemmas.List.{length-map}
-use Rattle.k_areas.specs.k_types.declared.names.CellPhase.TheVariants.{Idle}
-use Rattle.k_areas.specs.k_types.Names.{name_of, name_among}
-use Rattle.k_areas.specs.k_exit.Exits.{ExitList, ExitRow}
-use Rattle.k_areas.proofs.Named.{targets_named}
+use Rattle.k_mark.specs.k_types.declared.names.CellPhase.TheVariants.{Idle}
+use Rattle.k_mark.specs.k_types.Names.{name_of, name_among}
+use Rattle.k_mark.specs.k_exit.Exits.{ExitList, ExitRow}
+use Rattle.k_mark.proofs.Named.{targets_named}
 use Rattle.k_cell.specs.Holdings.{HoldingsValue, holdings_seen}
 use Rattle.k_cell.proofs.Carried.{added_carried}
 use Rattle.k_cell.proofs.Marks.{added_kept}

@@ -1,9 +1,9 @@
 use Rattle.std.proofs.Common.{false, ◌≡◌, ◌<◌, None, get_or, ap, ◌∙◌, arith}
 use Rattle.std.proofs.lemmas.Bool.{false≢true}
-use Rattle.k_areas.specs.k_types.declared.names.CellPhase.TheVariants.{Idle}
-use Rattle.k_areas.specs.k_types.Owners.{object_bytes}
-use Rattle.k_areas.specs.k_types.Totals.{total}
-use Rattle.k_areas.specs.k_space.Areas.{segment_at}
+use Rattle.k_mark.specs.k_types.declared.names.CellPhase.TheVariants.{Idle}
+use Rattle.k_mark.specs.k_types.Owners.{object_bytes}
+use Rattle.k_mark.specs.k_types.Totals.{total}
+use Rattle.k_mark.specs.k_space.Areas.{segment_at}
 use Rattle.k_cell.specs.Holdings.{HoldingsValue}
 use Rattle.k_cell.proofs.Moved.{joined_kept, joined_seen, joined_there, none_there, room_left}
 use Rattle.k_cell.proofs.Carried.{idle_carried}

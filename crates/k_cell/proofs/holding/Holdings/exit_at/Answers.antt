@@ -1,6 +1,6 @@
 use Rattle.std.proofs.Common.{length, ap, arith}
 use Rattle.std.proofs.lemmas.List.{length-map}
-use Rattle.k_areas.specs.k_exit.Exits.{ExitRow}
+use Rattle.k_mark.specs.k_exit.Exits.{ExitRow}
 use Rattle.k_cell.specs.Holdings.{HoldingsValue}
 use Rattle.k_cell.proofs.Lists.{target_at}
 use Rattle.k_cell.proofs.holding.Holdings.exit_at.Goals as goal

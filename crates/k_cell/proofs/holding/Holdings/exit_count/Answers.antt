@@ -1,4 +1,4 @@
-use Rattle.k_areas.proofs.Takes.{targets_distinct}
+use Rattle.k_mark.proofs.Takes.{targets_distinct}
 use Rattle.k_cell.proofs.holding.Holdings.exit_count.Goals as goal
 
 pub returns-clause-distinct : goal.returns-clause-distinct

@@ -1,6 +1,6 @@
 use Rattle.std.proofs.Common.{List, length, sym, ap, ◌∙◌}
-use Rattle.k_areas.specs.k_types.Names.{name_of}
-use Rattle.k_areas.specs.k_types.State.{Content}
+use Rattle.k_mark.specs.k_types.Names.{name_of}
+use Rattle.k_mark.specs.k_types.State.{Content}
 use Rattle.k_cell.proofs.Found.{fields_found}
 use Rattle.k_cell.proofs.holding.Holdings.field_count.Goals as goal
 

@@ -1,5 +1,5 @@
 use Rattle.std.proofs.Common.{sym, ◌∙◌}
-use Rattle.k_areas.specs.k_types.Names.{name_of}
+use Rattle.k_mark.specs.k_types.Names.{name_of}
 use Rattle.k_cell.proofs.Found.{field_found}
 use Rattle.k_cell.proofs.holding.Holdings.found.Goals as goal
 

@@ -1,6 +1,6 @@
 use Rattle.std.proofs.Common.{sym, ap, subst, ◌∙◌}
 use Rattle.std.proofs.lemmas.Result.{on_err_weaker, on_ok_weaker}
-use Rattle.k_areas.specs.k_space.Areas.{AreaValue}
+use Rattle.k_mark.specs.k_space.Areas.{AreaValue}
 use Rattle.k_cell.specs.Carried.{IsCarried}
 use Rattle.k_cell.specs.Holdings.{AreHoldings, AreWithin, CanGrowTo, HoldingsValue, holdings_seen}
 use Rattle.k_cell.proofs.Resized.{can_grow, either_way, living_within, resized_carried, resized_kept, resized_seen}

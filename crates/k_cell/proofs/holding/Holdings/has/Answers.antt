@@ -1,5 +1,5 @@
 use Rattle.std.proofs.Common.{sym, ◌∙◌}
-use Rattle.k_areas.proofs.Foreign.{area_has}
+use Rattle.k_mark.proofs.Foreign.{area_has}
 use Rattle.k_cell.proofs.holding.Holdings.has.Goals as goal
 
 pub returns : goal.returns

@@ -1,5 +1,5 @@
 use Rattle.std.proofs.Common.{sym, ◌∙◌}
-use Rattle.k_areas.proofs.Named.{targets_named}
+use Rattle.k_mark.proofs.Named.{targets_named}
 use Rattle.k_cell.proofs.holding.Holdings.has_exit.Goals as goal
 
 pub returns : goal.returns

@@ -1,5 +1,5 @@
 use Rattle.std.proofs.Common.{◌==◌, ◌∙◌}
-use Rattle.k_areas.specs.k_types.declared.names.Name.{Name}
+use Rattle.k_mark.specs.k_types.declared.names.Name.{Name}
 use Rattle.k_cell.proofs.Lists.{targets_lead}
 use Rattle.k_cell.proofs.holding.Holdings.leads_into.Goals as goal
 

@@ -1,7 +1,7 @@
 use Rattle.std.proofs.Common.{◌≡◌, [], ◌∷◌, ◌++◌, None, refl, ap, ◌∙◌}
 use Rattle.std.proofs.lemmas.Bool.{false≢true}
-use Rattle.k_areas.specs.k_types.declared.names.CellPhase.TheVariants.{Idle}
-use Rattle.k_areas.specs.k_space.Areas.{AreaValue}
+use Rattle.k_mark.specs.k_types.declared.names.CellPhase.TheVariants.{Idle}
+use Rattle.k_mark.specs.k_space.Areas.{AreaValue}
 use Rattle.k_cell.proofs.Moved.{fresh_kept, fresh_seen}
 use Rattle.k_cell.proofs.Carried.{idle_carried}
 use Rattle.k_cell.proofs.holding.Holdings.make.Goals as goal

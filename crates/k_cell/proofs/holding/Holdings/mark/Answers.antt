@@ -1,6 +1,6 @@
 use Rattle.std.proofs.Common.{◌≡◌, IsTrue, List, ap, sym, subst, ◌∙◌}
-use Rattle.k_areas.specs.k_types.declared.names.CellPhase.TheVariants.{Begun}
-use Rattle.k_areas.specs.k_types.declared.names.Name.{Name}
+use Rattle.k_mark.specs.k_types.declared.names.CellPhase.TheVariants.{Begun}
+use Rattle.k_mark.specs.k_types.declared.names.Name.{Name}
 use Rattle.k_cell.specs.Carried.{IsWhole}
 use Rattle.k_cell.specs.Changes.{HasItsExits}
 use Rattle.k_cell.specs.Holdings.{HoldingsValue}

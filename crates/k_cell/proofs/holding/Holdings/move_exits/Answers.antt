@@ -1,6 +1,6 @@
 use Rattle.std.proofs.Common.{List, length, sym, ap, subst, arith}
 use Rattle.std.proofs.lemmas.List.{length-map}
-use Rattle.k_areas.specs.k_exit.Exits.{ExitList, ExitRow}
+use Rattle.k_mark.specs.k_exit.Exits.{ExitList, ExitRow}
 use Rattle.k_cell.specs.Carried.{IsCarried}
 use Rattle.k_cell.specs.Holdings.{AreHoldings, HoldingsValue, holdings_seen}
 use Rattle.k_cell.proofs.holding.Holdings.move_exits.Goals as goal

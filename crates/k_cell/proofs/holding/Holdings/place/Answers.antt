@@ -1,6 +1,6 @@
 use Rattle.std.proofs.Common.{◌≡◌, sym, ap, subst, ◌∙◌}
-use Rattle.k_areas.specs.k_types.declared.names.CellPhase.TheVariants.{Idle}
-use Rattle.k_areas.specs.k_space.Bounds.{is_covered}
+use Rattle.k_mark.specs.k_types.declared.names.CellPhase.TheVariants.{Idle}
+use Rattle.k_mark.specs.k_space.Bounds.{is_covered}
 use Rattle.k_cell.specs.Holdings.{HoldingsValue, HasObjectRoom}
 use Rattle.k_cell.proofs.Seen.{can_place, placed_kept, placed_name, placed_seen}
 use Rattle.k_cell.proofs.Carried.{placed_carried}

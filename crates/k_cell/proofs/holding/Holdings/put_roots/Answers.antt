@@ -1,6 +1,6 @@
 use Rattle.std.proofs.Common.{◌≡◌, ap, ◌∙◌}
-use Rattle.k_areas.specs.k_types.declared.names.CellPhase.TheVariants.{Begun}
-use Rattle.k_areas.specs.k_space.Areas.{unmarked}
+use Rattle.k_mark.specs.k_types.declared.names.CellPhase.TheVariants.{Begun}
+use Rattle.k_mark.specs.k_space.Areas.{unmarked}
 use Rattle.k_cell.specs.Holdings.{HoldingsValue}
 use Rattle.k_cell.proofs.Marks.{rooted_rest}
 use Rattle.k_cell.proofs.Carried.{rooted_carried}

@@ -1,7 +1,7 @@
 use Rattle.std.proofs.Common.{◌≡◌, ap, ◌∙◌}
-use Rattle.k_areas.specs.k_types.declared.names.CellPhase.TheVariants.{Begun}
-use Rattle.k_areas.specs.k_types.Names.{name_of}
-use Rattle.k_areas.specs.k_space.Areas.{unmarked}
+use Rattle.k_mark.specs.k_types.declared.names.CellPhase.TheVariants.{Begun}
+use Rattle.k_mark.specs.k_types.Names.{name_of}
+use Rattle.k_mark.specs.k_space.Areas.{unmarked}
 use Rattle.k_cell.specs.Holdings.{HoldingsValue}
 use Rattle.k_cell.proofs.Marks.{grayed_same, rooted, rooted_kept, rooted_rest}
 use Rattle.k_cell.proofs.Carried.{rooted_carried}

@@ -1,10 +1,10 @@
 use Rattle.std.proofs.Common.{◌≡◌, Option, option_map, slice_get, sym, ap, subst, ◌∙◌}
-use Rattle.k_areas.specs.k_types.declared.names.CellPhase.TheVariants.{Idle}
-use Rattle.k_areas.specs.k_types.Names.{name_of}
-use Rattle.k_areas.specs.k_types.State.{Content, Refers, field_kind}
-use Rattle.k_areas.specs.k_space.Bounds.{is_covered}
-use Rattle.k_areas.specs.k_space.Areas.{row_of_name}
-use Rattle.k_areas.specs.Shown.{area_objects}
+use Rattle.k_mark.specs.k_types.declared.names.CellPhase.TheVariants.{Idle}
+use Rattle.k_mark.specs.k_types.Names.{name_of}
+use Rattle.k_mark.specs.k_types.State.{Content, Refers, field_kind}
+use Rattle.k_mark.specs.k_space.Bounds.{is_covered}
+use Rattle.k_mark.specs.k_space.Areas.{row_of_name}
+use Rattle.k_mark.specs.Shown.{area_objects}
 use Rattle.k_cell.specs.Holdings.{HoldingsValue}
 use Rattle.k_cell.specs.Looks.{found_among, holds_ref, row_fields}
 use Rattle.k_cell.specs.Placed.{IsWrittenIf}

@@ -1,8 +1,8 @@
 use Rattle.std.proofs.Common.{◌≡◌, ap, ◌∙◌, arith}
-use Rattle.k_areas.specs.k_types.declared.names.CellPhase.TheVariants.{Marked}
-use Rattle.k_areas.specs.k_mark.Listening.{dead_at}
-use Rattle.k_areas.specs.k_mark.Sweeping.{dead_bytes, dead_objects}
-use Rattle.k_areas.proofs.Telling.{told_same}
+use Rattle.k_mark.specs.k_types.declared.names.CellPhase.TheVariants.{Marked}
+use Rattle.k_mark.specs.Listening.{dead_at}
+use Rattle.k_mark.specs.Sweeping.{dead_bytes, dead_objects}
+use Rattle.k_mark.proofs.Telling.{told_same}
 use Rattle.k_agree.specs.Ending.{freed_bytes, freed_objects}
 use Rattle.k_cell.specs.Changes.{freed_at}
 use Rattle.k_cell.specs.Holdings.{HoldingsValue, cell_seen}

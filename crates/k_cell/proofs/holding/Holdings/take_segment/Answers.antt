@@ -1,9 +1,9 @@
 use Rattle.std.proofs.Common.{false, ◌≡◌, None, option_map, sym, ap, subst, ◌∙◌, arith}
 use Rattle.std.proofs.lemmas.Bool.{false≢true}
-use Rattle.k_areas.specs.k_types.declared.names.CellPhase.TheVariants.{Idle}
-use Rattle.k_areas.specs.k_space.Segments.{made}
-use Rattle.k_areas.specs.k_space.Areas.{AreaValue, segment_at}
-use Rattle.k_areas.proofs.Named.{made_listed}
+use Rattle.k_mark.specs.k_types.declared.names.CellPhase.TheVariants.{Idle}
+use Rattle.k_mark.specs.k_space.Segments.{made}
+use Rattle.k_mark.specs.k_space.Areas.{AreaValue, segment_at}
+use Rattle.k_mark.proofs.Named.{made_listed}
 use Rattle.k_cell.specs.Carried.{IsCarried}
 use Rattle.k_cell.specs.Holdings.{HoldingsValue, AreHoldings}
 use Rattle.k_cell.proofs.Moved.{IsTakenBy, left_kept, left_most, left_seen}

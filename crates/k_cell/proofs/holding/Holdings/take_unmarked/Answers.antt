@@ -1,6 +1,6 @@
 use Rattle.std.proofs.Common.{◌≡◌, length, sym, ap, subst, ◌∙◌}
-use Rattle.k_areas.specs.k_types.declared.names.CellPhase.TheVariants.{Marked}
-use Rattle.k_areas.specs.k_exit.Exits.{ExitList}
+use Rattle.k_mark.specs.k_types.declared.names.CellPhase.TheVariants.{Marked}
+use Rattle.k_mark.specs.k_exit.Exits.{ExitList}
 use Rattle.k_cell.specs.Carried.{IsCarried}
 use Rattle.k_cell.specs.Holdings.{AreHoldings, HoldingsValue}
 use Rattle.k_cell.proofs.Carried.{settled_carried, taken_carried}

@@ -1,8 +1,8 @@
 use Rattle.std.proofs.Common.{◌≡◌, ap, ◌∙◌, arith}
-use Rattle.k_areas.specs.k_types.Names.{name_of}
-use Rattle.k_areas.specs.k_types.declared.names.CellPhase.TheVariants.{Idle}
-use Rattle.k_areas.specs.k_types.Replies.{is_ref}
-use Rattle.k_areas.specs.k_types.State.{Holds}
+use Rattle.k_mark.specs.k_types.Names.{name_of}
+use Rattle.k_mark.specs.k_types.declared.names.CellPhase.TheVariants.{Idle}
+use Rattle.k_mark.specs.k_types.Replies.{is_ref}
+use Rattle.k_mark.specs.k_types.State.{Holds}
 use Rattle.k_cell.specs.Holdings.{HoldingsValue}
 use Rattle.k_cell.specs.Looks.{field_among, field_count_among}
 use Rattle.k_cell.proofs.Seen.{int_there, written_kept, written_seen}

@@ -1,9 +1,9 @@
 use Rattle.std.proofs.Common.{◌≡◌, option_map, sym, ap, ◌∙◌}
-use Rattle.k_areas.specs.k_types.declared.names.CellPhase.TheVariants.{Idle}
-use Rattle.k_areas.specs.k_types.Names.{name_of}
-use Rattle.k_areas.specs.k_types.Replies.{is_ref}
-use Rattle.k_areas.specs.k_types.State.{Refers}
-use Rattle.k_areas.specs.k_space.Bounds.{is_covered}
+use Rattle.k_mark.specs.k_types.declared.names.CellPhase.TheVariants.{Idle}
+use Rattle.k_mark.specs.k_types.Names.{name_of}
+use Rattle.k_mark.specs.k_types.Replies.{is_ref}
+use Rattle.k_mark.specs.k_types.State.{Refers}
+use Rattle.k_mark.specs.k_space.Bounds.{is_covered}
 use Rattle.k_cell.specs.Holdings.{HoldingsValue}
 use Rattle.k_cell.specs.Looks.{field_among}
 use Rattle.k_cell.proofs.Seen.{ref_there, written_kept, written_seen}

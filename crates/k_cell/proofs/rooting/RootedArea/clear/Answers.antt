@@ -1,5 +1,5 @@
 use Rattle.std.proofs.Common.{sym, ap, ◌∙◌}
-use Rattle.k_areas.specs.k_space.Areas.{AreaValue, gray_at, unmarked}
+use Rattle.k_mark.specs.k_space.Areas.{AreaValue, gray_at, unmarked}
 use Rattle.k_cell.proofs.Carried.{none_gray}
 use Rattle.k_cell.proofs.Rooted.{all_same}
 use Rattle.k_cell.proofs.rooting.RootedArea.clear.Goals as goal

@@ -1,6 +1,6 @@
 use Rattle.std.proofs.Common.{List, get_or, ap, ◌∙◌}
-use Rattle.k_areas.specs.k_types.Names.{name_of}
-use Rattle.k_areas.specs.k_types.State.{Content, Holds}
+use Rattle.k_mark.specs.k_types.Names.{name_of}
+use Rattle.k_mark.specs.k_types.State.{Content, Holds}
 use Rattle.k_cell.proofs.Rooted.{distinct_inside, fields_same}
 use Rattle.k_cell.proofs.rooting.RootedArea.field_at.Goals as goal
 

@@ -1,6 +1,6 @@
 use Rattle.std.proofs.Common.{List, slice_get, ap, ◌∙◌}
-use Rattle.k_areas.specs.k_types.Names.{name_of}
-use Rattle.k_areas.specs.k_types.State.{Content}
+use Rattle.k_mark.specs.k_types.Names.{name_of}
+use Rattle.k_mark.specs.k_types.State.{Content}
 use Rattle.k_cell.proofs.Rooted.{distinct_inside, fields_same}
 use Rattle.k_cell.proofs.rooting.RootedArea.found_at.Goals as goal
 

@@ -1,7 +1,7 @@
 use Rattle.std.proofs.Common.{◌≡◌, ◌≤◌, sym, subst, ◌∙◌, OnErr, OnOk, Some}
 use Rattle.std.proofs.lemmas.Bool.{false≢true}
-use Rattle.k_areas.specs.k_space.Segments.{SegmentValue, living}
-use Rattle.k_areas.specs.k_space.Areas.{AreaValue, HasDistinct, segment_at}
+use Rattle.k_mark.specs.k_space.Segments.{SegmentValue, living}
+use Rattle.k_mark.specs.k_space.Areas.{AreaValue, HasDistinct, segment_at}
 use Rattle.k_cell.specs.Placed.{CanGrow, IsResized}
 use Rattle.k_cell.proofs.Rooted.{distinct_inside}
 use Rattle.k_cell.proofs.rooting.RootedArea.grow_in.Goals as goal

@@ -1,5 +1,5 @@
 use Rattle.std.proofs.Common.{◌≡◌, sym, ap, ◌∙◌}
-use Rattle.k_areas.specs.k_space.Areas.{unmarked}
+use Rattle.k_mark.specs.k_space.Areas.{unmarked}
 use Rattle.k_cell.proofs.Areas.{can_place_alike}
 use Rattle.k_cell.proofs.Rooted.{all_same, distinct_inside}
 use Rattle.k_cell.proofs.rooting.RootedArea.has_room_in.Goals as goal

@@ -1,10 +1,10 @@
 use Rattle.std.proofs.Common.{◌≡◌, false, IfSome, Vec, Global, List, Option, sym, ap, subst, ◌∙◌}
-use Rattle.k_areas.specs.k_types.declared.names.Name.{Name}
-use Rattle.k_areas.specs.k_types.Names.{name_among}
-use Rattle.k_areas.specs.k_space.declared.bound.Bound.{Bound}
-use Rattle.k_areas.specs.k_space.Areas.{AreaValue, black_at, gray_at, marked_at, unmarked}
-use Rattle.k_areas.specs.k_mark.Kept.{IsBeginning, IsKept}
-use Rattle.k_areas.specs.k_mark.Marking.{refers_at}
+use Rattle.k_mark.specs.k_types.declared.names.Name.{Name}
+use Rattle.k_mark.specs.k_types.Names.{name_among}
+use Rattle.k_mark.specs.k_space.declared.bound.Bound.{Bound}
+use Rattle.k_mark.specs.k_space.Areas.{AreaValue, black_at, gray_at, marked_at, unmarked}
+use Rattle.k_mark.specs.Kept.{IsBeginning, IsKept}
+use Rattle.k_mark.specs.Marking.{refers_at}
 use Rattle.k_cell.specs.Rooted.{grayed_all}
 use Rattle.k_cell.proofs.Carried.{foreign_alike, known_led, marks_kept}
 use Rattle.k_cell.proofs.Keeps.{kept_from}

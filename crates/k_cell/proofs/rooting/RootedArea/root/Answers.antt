@@ -1,7 +1,7 @@
 use Rattle.std.proofs.Common.{◌∷◌, ◌++◌, [], ap, ◌∙◌}
-use Rattle.k_areas.specs.k_types.declared.names.Name.{Name}
-use Rattle.k_areas.specs.k_types.Names.{name_of}
-use Rattle.k_areas.specs.k_space.Areas.{AreaValue, grayed}
+use Rattle.k_mark.specs.k_types.declared.names.Name.{Name}
+use Rattle.k_mark.specs.k_types.Names.{name_of}
+use Rattle.k_mark.specs.k_space.Areas.{AreaValue, grayed}
 use Rattle.k_cell.specs.Rooted.{grayed_all}
 use Rattle.k_cell.proofs.Rooted.{distinct_inside, grayed_push}
 use Rattle.k_cell.proofs.rooting.RootedArea.root.Goals as goal

@@ -1,8 +1,8 @@
 use Rattle.std.proofs.Common.{◌≡◌, option_map, slice_get, sym, ap, subst, ◌∙◌}
 use Rattle.std.proofs.lemmas.Bool.{false≢true}
-use Rattle.k_areas.specs.k_types.Names.{name_of}
-use Rattle.k_areas.specs.k_types.State.{Refers, field_kind}
-use Rattle.k_areas.specs.k_space.Areas.{AreaValue, HasDistinct, row_of_name}
+use Rattle.k_mark.specs.k_types.Names.{name_of}
+use Rattle.k_mark.specs.k_types.State.{Refers, field_kind}
+use Rattle.k_mark.specs.k_space.Areas.{AreaValue, HasDistinct, row_of_name}
 use Rattle.k_cell.specs.Looks.{holds_ref, row_fields}
 use Rattle.k_cell.specs.Placed.{IsWrittenIf}
 use Rattle.k_cell.proofs.Rooted.{distinct_inside}

@@ -1,8 +1,8 @@
 use Rattle.std.proofs.Common.{◌≡◌, ◌+◌, ◌<◌, ◌≤◌, ◌^◌, length, sym, ap, subst, ◌∙◌}
 use Rattle.std.proofs.lemmas.Bool.{false≢true}
-use Rattle.k_areas.specs.k_space.Areas.{AreaValue, HasDistinct}
-use Rattle.k_areas.specs.k_mark.Listening.{AreTold, dead_at}
-use Rattle.k_areas.specs.k_mark.Sweeping.{dead_bytes, dead_objects, swept}
+use Rattle.k_mark.specs.k_space.Areas.{AreaValue, HasDistinct}
+use Rattle.k_mark.specs.Listening.{AreTold, dead_at}
+use Rattle.k_mark.specs.Sweeping.{dead_bytes, dead_objects, swept}
 use Rattle.k_cell.proofs.Rooted.{distinct_inside}
 use Rattle.k_cell.proofs.rooting.RootedArea.sweep_telling.Goals as goal
 

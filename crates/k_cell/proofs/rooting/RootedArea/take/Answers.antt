@@ -1,6 +1,6 @@
 use Rattle.std.proofs.Common.{IfNone, ◌≡◌, sym, ap, subst, ◌∙◌}
 use Rattle.std.proofs.lemmas.Bool.{false≢true}
-use Rattle.k_areas.specs.k_space.Areas.{AreaValue, HasDistinct, segment_at}
+use Rattle.k_mark.specs.k_space.Areas.{AreaValue, HasDistinct, segment_at}
 use Rattle.k_cell.proofs.Rooted.{distinct_inside}
 use Rattle.k_cell.proofs.rooting.RootedArea.take.Goals as goal
 

@@ -1,8 +1,8 @@
 use Rattle.std.proofs.Common.{◌≡◌, option_map, sym, subst, ◌∙◌}
 use Rattle.std.proofs.lemmas.Bool.{false≢true}
-use Rattle.k_areas.specs.k_types.Names.{name_of}
-use Rattle.k_areas.specs.k_types.State.{Refers}
-use Rattle.k_areas.specs.k_space.Areas.{AreaValue, HasDistinct}
+use Rattle.k_mark.specs.k_types.Names.{name_of}
+use Rattle.k_mark.specs.k_types.State.{Refers}
+use Rattle.k_mark.specs.k_space.Areas.{AreaValue, HasDistinct}
 use Rattle.k_cell.specs.Placed.{IsRefAt, IsWrittenIn}
 use Rattle.k_cell.proofs.Rooted.{distinct_inside}
 use Rattle.k_cell.proofs.rooting.RootedArea.write_ref_in.Goals as goal

@@ -1,6 +1,6 @@
 use Rattle.std.proofs.Common.{List, length, ap, ap₂, subst, ◌∙◌, vec_capacity}
-use Rattle.k_base.specs.k_types.declared.names.Heap.{Heap}
-use Rattle.k_base.specs.k_types.declared.names.Name.{Name}
+use Rattle.k_types.specs.declared.names.Heap.{Heap}
+use Rattle.k_types.specs.declared.names.Name.{Name}
 use Rattle.k_lists.specs.Lists.{members}
 use Rattle.k_entry.specs.declared.item.Item.{Item}
 use Rattle.k_entry.specs.Copies.{IsCopied}

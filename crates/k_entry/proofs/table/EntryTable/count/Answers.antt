@@ -1,5 +1,5 @@
 use Rattle.std.proofs.Common.{sym, ap, subst, ◌∙◌}
-use Rattle.k_base.specs.k_types.Counted.{counted}
+use Rattle.k_types.specs.Counted.{counted}
 use Rattle.k_entry.specs.declared.item.Item.{Item}
 use Rattle.k_entry.specs.Entries.{EntryValue, AreEntries}
 use Rattle.k_entry.specs.Slots.{Parts, shown}

@@ -1,5 +1,5 @@
 use Rattle.std.proofs.Common.{◌≡◌, ◌-◌, List, length, set, sym, ap, subst, ◌∙◌, arith}
-use Rattle.k_base.specs.k_types.Counted.{Counted, counted}
+use Rattle.k_types.specs.Counted.{Counted, counted}
 use Rattle.k_entry.specs.declared.item.Item.{Item}
 use Rattle.k_entry.specs.Entries.{EntryValue, HasLess}
 use Rattle.k_entry.specs.Slots.{Parts, shown, at}

@@ -1,5 +1,5 @@
 use Rattle.std.proofs.Common.{◌≡◌, List, Some, None, length, option_map, slice_get, sym, ap, subst, ◌∙◌, arith}
-use Rattle.k_base.specs.k_types.declared.names.Heap.{Heap}
+use Rattle.k_types.specs.declared.names.Heap.{Heap}
 use Rattle.k_lists.specs.Lists.{members}
 use Rattle.k_entry.specs.declared.item.Item.{Item}
 use Rattle.k_entry.specs.Entries.{EntryValue, AreEntries, first_object, items_of}

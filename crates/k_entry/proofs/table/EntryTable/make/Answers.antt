@@ -1,6 +1,6 @@
 use Rattle.std.proofs.Common.{◌≡◌, ◌+◌, List, length, sym, ap, ap₂, ◌∙◌, arith}
-use Rattle.k_base.specs.k_types.declared.names.Heap.{Heap}
-use Rattle.k_base.specs.k_types.Counted.{Counted}
+use Rattle.k_types.specs.declared.names.Heap.{Heap}
+use Rattle.k_types.specs.Counted.{Counted}
 use Rattle.k_entry.proofs.Items.{counted_made, entries_of, kept_made, shows_made}
 use Rattle.k_entry.proofs.Known.{known_none}
 use Rattle.k_entry.proofs.table.EntryTable.make.Goals as goal

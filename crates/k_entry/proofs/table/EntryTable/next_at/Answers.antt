@@ -1,7 +1,7 @@
 use Rattle.std.proofs.Common.{◌≡◌, ◌+◌, List, Some, None, IfSome, length, option_map, true, refl, sym, ap, ap₂, subst, ◌∙◌, arith}
-use Rattle.k_base.specs.k_types.declared.names.Heap.{Heap}
-use Rattle.k_base.specs.k_types.Names.{name_of}
-use Rattle.k_base.specs.k_types.Counted.{counted}
+use Rattle.k_types.specs.declared.names.Heap.{Heap}
+use Rattle.k_types.specs.Names.{name_of}
+use Rattle.k_types.specs.Counted.{counted}
 use Rattle.k_lists.specs.Lists.{members, is_in}
 use Rattle.k_entry.specs.declared.item.Item.{Item}
 use Rattle.k_entry.specs.Entries.{EntryValue, AreEntries, object_after, items_of, home_of}

@@ -1,11 +1,11 @@
 use Rattle.std.proofs.Common.{◌≡◌, ◌+◌, ◌^◌, ◌<◌, ℕ, List, length, set, sym, ap, ap₂, subst, ◌∙◌, arith}
-use Rattle.k_base.specs.k_types.declared.names.Name.{Name}
-use Rattle.k_base.specs.k_types.declared.names.Heap.{Heap}
-use Rattle.k_base.specs.k_types.Names.{name_of}
+use Rattle.k_types.specs.declared.names.Name.{Name}
+use Rattle.k_types.specs.declared.names.Heap.{Heap}
+use Rattle.k_types.specs.Names.{name_of}
 use Rattle.std.proofs.lemmas.List.{length-map}
-use Rattle.k_base.specs.k_types.Totals.{total}
+use Rattle.k_types.specs.Totals.{total}
 use Rattle.k_lists.specs.Lists.{ListsValue, members}
-use Rattle.k_base.specs.k_types.Counted.{counted}
+use Rattle.k_types.specs.Counted.{counted}
 use Rattle.k_entry.specs.declared.item.Item.{Item}
 use Rattle.k_entry.specs.Entries.{AreEntries, EntryValue, HasMore}
 use Rattle.k_entry.specs.Slots.{Parts, shown, used, row_at, AreKept, GivesSlot}

@@ -1,9 +1,8 @@
 use Rattle.std.proofs.Common.{◌≡◌, ◌+◌, ◌&&◌, List, Some, map, slice_get, sym, ap, ap₂, subst, is_lt, nat_cmp, add-one, ◌∙◌, arith, rules}
 use Rattle.std.specs.List.Sorted.{IsPermutation}
-use Rattle.std.proofs.lemmas.List.Sorted.{IsPermutation-map, list_any-IsPermutation}
-use Rattle.std.proofs.lemmas.List.Sorted.{answers_always}
-use Rattle.k_base.specs.k_types.declared.names.Name.{Name}
-use Rattle.k_base.specs.k_types.Names.{name_eq}
+use Rattle.std.proofs.lemmas.List.Sorted.{IsPermutation-map, list_any-IsPermutation, answers_always}
+use Rattle.k_types.specs.declared.names.Name.{Name}
+use Rattle.k_types.specs.Names.{name_eq}
 use Rattle.k_exit.specs.declared.chains.Item.{Item}
 use Rattle.k_exit.specs.Chains.{row_of, blank}
 use Rattle.k_exit.specs.Exits.{ExitRow, ExitList, AreDistinct}
@@ -13,7 +12,7 @@ use Rattle.std.proofs.lemmas.List.{length-map}
 use Rattle.k_exit.proofs.Order.{apart_next, key_at}
 use Rattle.k_exit.proofs.Lists.{distinct_same, passed_end}
 use Rattle.k_exit.proofs.table.ExitTable.arrange.Goals as goal
-use Rattle.k_base.proofs.NameTests.{comes_first}
+use Rattle.k_types.proofs.NameTests.{comes_first}
 
 pub invariant_of-self : goal.invariant_of-self
 invariant_of-self c =

@@ -6,7 +6,7 @@ use Rattle.std.proofs.lemmas.Option.{slice_get-get_or}
 use Rattle.k_exit.specs.declared.chains.Item.{Item}
 use Rattle.k_exit.specs.Chains.{HasPassed, row_of, at, blank}
 use Rattle.k_exit.specs.Exits.{ExitRow, ExitList, AreDistinct, has_target, marked_if, with_marked}
-use Rattle.k_base.proofs.NameTests.{name_eq-same}
+use Rattle.k_types.proofs.NameTests.{name_eq-same}
 use Rattle.k_exit.proofs.Relinks.{read_at}
 use Rattle.k_exit.proofs.Lists.{has_by, marked_set, linked_marks, distinct_marked, passed_marked, mark_same}
 use Rattle.k_exit.proofs.table.ExitTable.mark.Goals as goal

@@ -1,5 +1,5 @@
 use Rattle.std.proofs.Common.{◌≡◌, ◌+◌, ◌&&◌, not, List, map, length, ◌∷◌, sym, ap, subst, ◌∙◌, inl, inr, arith}
-use Rattle.std.proofs.lemmas.Bool.{cases_lt}
+use Rattle.std.proofs.lemmas.Bool.{cases_lt, and_parts}
 use Rattle.std.proofs.lemmas.Option.{slice_get_within, get_or_from_slice_get}
 use Rattle.std.proofs.Math.ListN.{get_or-map}
 use Rattle.std.specs.List.Sorted.{IsPermutation}
@@ -8,8 +8,7 @@ use Rattle.k_exit.specs.Chains.{HasPassed, IsLastWanted, row_of, at, blank, rows
 use Rattle.k_exit.specs.Exits.{ExitRow, ExitList, AreDistinct, has_target, target_marked}
 use Rattle.k_exit.proofs.Lists.{without_is, distinct_taken, passed_without}
 use Rattle.k_exit.proofs.Takes.{left_over, one_fewer}
-use Rattle.k_base.specs.k_types.Names.{name_eq}
-use Rattle.std.proofs.lemmas.Bool.{and_parts}
+use Rattle.k_types.specs.Names.{name_eq}
 use Rattle.std.proofs.lemmas.List.{length-map}
 use Rattle.k_exit.proofs.table.ExitTable.take.Goals as goal
 

@@ -1,5 +1,5 @@
 use Rattle.std.proofs.Common.{◌≡◌, Option, Some, None, IfNone, length, List, []}
-use Rattle.k_base.specs.k_types.declared.names.Link.{Link}
+use Rattle.k_types.specs.declared.names.Link.{Link}
 use Rattle.k_exit.specs.declared.table.Wanted.TheVariants.{Any}
 use Rattle.k_exit.specs.Exits.{ExitRow}
 use Rattle.k_exit.specs.Chains.{HasNoneWanted}

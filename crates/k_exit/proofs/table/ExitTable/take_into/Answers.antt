@@ -1,7 +1,7 @@
 use Rattle.std.proofs.Common.{Option, Some, None, IfNone, length, List}
 use Rattle.std.specs.Bool.{IsFalse}
-use Rattle.k_base.specs.k_types.declared.names.Link.{Link}
-use Rattle.k_base.specs.k_types.declared.names.Seg.{Seg}
+use Rattle.k_types.specs.declared.names.Link.{Link}
+use Rattle.k_types.specs.declared.names.Seg.{Seg}
 use Rattle.k_exit.specs.declared.table.Wanted.TheVariants.{Into}
 use Rattle.k_exit.specs.Exits.{ExitRow, leads_into}
 use Rattle.k_exit.specs.Chains.{HasNoneWanted}

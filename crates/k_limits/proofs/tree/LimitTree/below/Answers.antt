@@ -1,8 +1,8 @@
 use Rattle.std.proofs.Common.{sym, ap, ◌∙◌, length}
-use Rattle.k_base.specs.k_types.Names.{among}
-use Rattle.k_base.specs.k_types.Limits.{ancestors_of}
+use Rattle.k_types.specs.Names.{among}
+use Rattle.k_types.specs.Limits.{ancestors_of}
 use Rattle.k_limits.proofs.Slices.{there_in}
-use Rattle.k_base.proofs.Ancestors.{ancestor_before}
+use Rattle.k_types.proofs.Ancestors.{ancestor_before}
 use Rattle.k_limits.proofs.tree.LimitTree.below.Goals as goal
 
 pub returns-clause-before : goal.returns-clause-before

@@ -1,6 +1,6 @@
 use Rattle.std.proofs.Common.{◌+◌, refl, sym, ap, ◌∙◌, option_map, None}
 use Rattle.std.proofs.lemmas.List.{with_items_is}
-use Rattle.k_base.specs.k_types.declared.names.LimitId.{LimitId}
+use Rattle.k_types.specs.declared.names.LimitId.{LimitId}
 use Rattle.k_limits.specs.Limits.{ChargedLimits, full_at}
 use Rattle.k_limits.proofs.Slices.{there_in, full_read, charge_small_read, uses_fit_read, charged_read, direct_fits, item_read, kept_as, charge_seen, charges_there}
 use Rattle.k_limits.proofs.tree.LimitTree.charge.Goals as goal

@@ -1,8 +1,8 @@
 use Rattle.std.proofs.Common.{◌<◌, ◌≤◌, refl, sym, ap, ◌∙◌, option_map, None, is_some, subst, IsTrue}
 use Rattle.std.proofs.lemmas.List.{with_items_is}
-use Rattle.k_base.specs.k_types.declared.names.LimitId.{LimitId}
-use Rattle.k_base.specs.k_types.Trace.{row_of}
-use Rattle.k_base.specs.k_types.Limits.{max_of}
+use Rattle.k_types.specs.declared.names.LimitId.{LimitId}
+use Rattle.k_types.specs.Trace.{row_of}
+use Rattle.k_types.specs.Limits.{max_of}
 use Rattle.k_limits.specs.Limits.{ChargedLimits, use_at}
 use Rattle.k_limits.specs.Resizes.{full_for_at}
 use Rattle.k_limits.proofs.Slices.{there_in}

@@ -1,5 +1,5 @@
 use Rattle.std.proofs.Common.{◌≡◌, ℕ, ◌<◌, take, false}
-use Rattle.k_base.specs.k_types.Trace.{row_of}
+use Rattle.k_types.specs.Trace.{row_of}
 use Rattle.k_limits.specs.Rows.{is_refused, uncharged}
 use Rattle.k_limits.proofs.tree.LimitTree.make.Given as goal
 

@@ -1,7 +1,7 @@
 use Rattle.std.proofs.Common.{◌≤◌, sym, ◌∙◌, is_some, subst, IsTrue}
 use Rattle.std.proofs.lemmas.List.{with_items_is}
-use Rattle.k_base.specs.k_types.Trace.{row_of}
-use Rattle.k_base.specs.k_types.Limits.{max_of}
+use Rattle.k_types.specs.Trace.{row_of}
+use Rattle.k_types.specs.Limits.{max_of}
 use Rattle.k_limits.specs.Limits.{ChargedLimits, use_at}
 use Rattle.k_limits.proofs.Slices.{there_in}
 use Rattle.k_limits.proofs.Walks.{row_at}

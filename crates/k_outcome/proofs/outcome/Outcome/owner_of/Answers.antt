@@ -6,7 +6,7 @@ use Rattle.k_outcome.specs.Cells.{IsThere}
 use Rattle.k_outcome.specs.Ends.{last_state}
 use Rattle.k_outcome.proofs.Told.{book_shown, book_tells, homes_long, owner_there}
 use Rattle.k_outcome.proofs.outcome.Outcome.owner_of.Goals as goal
-use Rattle.k_base.proofs.Owners.{owner_known}
+use Rattle.k_types.proofs.Owners.{owner_known}
 
 pub owner-requires : goal.owner-requires
 owner-requires c =

@@ -4,12 +4,12 @@ use Rattle.k_types.specs.declared.names.Heap.{Heap}
 use Rattle.k_types.specs.declared.names.Name.{Name}
 use Rattle.k_types.specs.Trace.{IsHeap, segment_count, trace_of}
 use Rattle.k_text.specs.Shown.{in_order}
-use Rattle.k_shown.specs.Heaps.{heap_at}
-use Rattle.k_shown.proofs.Arranged.{begins_with, row_at}
+use Rattle.k_text.specs.Heaps.{heap_at}
+use Rattle.k_text.proofs.Arranged.{begins_with, row_at}
 use Rattle.k_outcome.specs.Cells.{cell_at}
 use Rattle.k_outcome.specs.Ends.{EndValue}
 use Rattle.k_outcome.proofs.outcome.Outcome.targets_of.Goals as goal
-use Rattle.k_base.proofs.Owners.{segment_known}
+use Rattle.k_types.proofs.Owners.{segment_known}
 
 pub returns : goal.returns
 returns c =

@@ -3,7 +3,7 @@ use Rattle.std.proofs.lemmas.Option.{slice_get-get_or}
 use Rattle.k_types.specs.declared.names.Name.{Name}
 use Rattle.k_types.specs.Known.{IsKnownName}
 use Rattle.k_text.specs.Shown.{exits_of}
-use Rattle.k_shown.proofs.Arranged.{target_known}
+use Rattle.k_text.proofs.Arranged.{target_known}
 use Rattle.k_outcome.specs.Ends.{last_state}
 use Rattle.k_outcome.specs.Listed.{name_at}
 use Rattle.k_outcome.proofs.Told.{exits_told, sound}

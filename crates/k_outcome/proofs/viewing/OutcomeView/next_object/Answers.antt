@@ -1,5 +1,5 @@
 use Rattle.k_outcome.specs.Ends.{last_state}
-use Rattle.k_shown.proofs.Known.{next_known}
+use Rattle.k_text.proofs.Known.{next_known}
 use Rattle.k_outcome.proofs.Told.{sound}
 use Rattle.k_outcome.proofs.viewing.OutcomeView.next_object.Goals as goal
 

@@ -1,6 +1,6 @@
 use Rattle.std.proofs.Common.{sym, ap}
 use Rattle.k_types.specs.Replies.{reference}
-use Rattle.k_shown.proofs.Known.{field_known}
+use Rattle.k_text.proofs.Known.{field_known}
 use Rattle.k_outcome.specs.Ends.{last_state}
 use Rattle.k_outcome.proofs.Told.{sound}
 use Rattle.k_outcome.proofs.viewing.OutcomeView.ref_at.Goals as goal

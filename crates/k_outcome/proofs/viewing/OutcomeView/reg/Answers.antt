@@ -3,8 +3,8 @@ use Rattle.std.specs.Prelude.{IfSome}
 use Rattle.k_types.specs.declared.names.Heap.TheVariants.{User}
 use Rattle.k_types.specs.declared.names.Name.{Name}
 use Rattle.k_types.specs.Known.{IsKnownName}
-use Rattle.k_frame.specs.PartUpdates.{held_in}
-use Rattle.k_setup.proofs.Held.{held_known}
+use Rattle.k_laws.specs.PartUpdates.{held_in}
+use Rattle.k_laws.proofs.Held.{held_known}
 use Rattle.k_process.specs.Over.{OutcomeValue}
 use Rattle.k_outcome.specs.Cells.{cell_at}
 use Rattle.k_outcome.specs.Ends.{last_state}

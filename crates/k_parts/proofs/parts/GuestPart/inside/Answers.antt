@@ -1,8 +1,8 @@
 use Rattle.std.proofs.Common.{IfSome}
 use Rattle.std.specs.Arc.{arc_value}
 use Rattle.std.specs.Prelude.{◌≡◌, IfErr, IfOk, is_some}
-use Rattle.k_moves.specs.Shown.{idle_part}
-use Rattle.k_squares.specs.Locals.{is_local_in}
+use Rattle.k_agree.specs.Shown.{idle_part}
+use Rattle.k_laws.specs.Locals.{is_local_in}
 use Rattle.k_ends.specs.CallsRefusals.{CanNotDoInside}
 use Rattle.k_ends.specs.Doing.{HasDoneInside}
 use Rattle.k_parts.proofs.Kept.{came_inside, left_inside, same_inside}

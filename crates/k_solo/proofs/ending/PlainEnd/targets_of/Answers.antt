@@ -4,8 +4,8 @@ use Rattle.k_types.specs.declared.names.Name.{Name}
 use Rattle.k_types.specs.Trace.{IsHeap}
 use Rattle.k_text.specs.Shown.{exits_of}
 use Rattle.k_solo.specs.Runs.{Run}
-use Rattle.k_shown.specs.Heaps.{heap_at}
-use Rattle.k_shown.proofs.Arranged.{begins_with, row_at}
+use Rattle.k_text.specs.Heaps.{heap_at}
+use Rattle.k_text.proofs.Arranged.{begins_with, row_at}
 use Rattle.k_solo.proofs.ending.PlainEnd.targets_of.Goals as goal
 
 pub returns : goal.returns

@@ -3,7 +3,7 @@ use Rattle.k_types.specs.Limits.{limits_in, max_of}
 use Rattle.k_types.specs.Trace.{limit_of, process_count}
 use Rattle.k_solo.specs.Runs.{Run}
 use Rattle.k_solo.proofs.viewing.PlainEndView.charge.Goals as goal
-use Rattle.k_base.proofs.Charges.{charge_at_most}
+use Rattle.k_types.proofs.Charges.{charge_at_most}
 
 pub returns : goal.returns
 returns c =

@@ -3,7 +3,7 @@ use Rattle.k_types.specs.Known.{IsKnownName}
 use Rattle.k_types.specs.declared.names.Name.{Name}
 use Rattle.k_solo.specs.Runs.{Run}
 use Rattle.k_plain.specs.Sounds.{IsSoundMachine}
-use Rattle.k_shown.proofs.Arranged.{target_known}
+use Rattle.k_text.proofs.Arranged.{target_known}
 use Rattle.k_solo.proofs.viewing.PlainEndView.exit.Goals as goal
 
 pub returns-clause-known : goal.returns-clause-known

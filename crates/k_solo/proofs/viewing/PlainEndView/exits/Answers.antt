@@ -1,7 +1,7 @@
 use Rattle.std.proofs.Common.{ap, length, arith, List}
 use Rattle.k_types.specs.declared.names.Name.{Name}
 use Rattle.k_solo.specs.Runs.{Run}
-use Rattle.k_shown.proofs.Arranged.{exits_length}
+use Rattle.k_text.proofs.Arranged.{exits_length}
 use Rattle.k_solo.proofs.viewing.PlainEndView.exits.Goals as goal
 
 pub overflow_cast-result : goal.overflow_cast-result

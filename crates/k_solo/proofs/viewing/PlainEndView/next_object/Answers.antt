@@ -1,4 +1,4 @@
-use Rattle.k_shown.proofs.Known.{next_known}
+use Rattle.k_text.proofs.Known.{next_known}
 use Rattle.k_solo.proofs.viewing.PlainEndView.next_object.Goals as goal
 
 pub returns-clause-known : goal.returns-clause-known

@@ -1,9 +1,9 @@
 use Rattle.std.proofs.Common.{sym, ap, ◌∙◌}
 use Rattle.k_types.specs.Known.{IsKnownName}
 use Rattle.k_types.specs.Replies.{reference}
-use Rattle.k_shown.proofs.Known.{field_known}
+use Rattle.k_text.proofs.Known.{field_known}
 use Rattle.k_solo.proofs.viewing.PlainEndView.ref_at.Goals as goal
-use Rattle.k_base.proofs.Lists.{if_some}
+use Rattle.k_types.proofs.Lists.{if_some}
 
 pub returns-clause-known : goal.returns-clause-known
 returns-clause-known c =

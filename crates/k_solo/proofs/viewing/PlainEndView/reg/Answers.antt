@@ -1,9 +1,8 @@
-use Rattle.std.proofs.Common.{subst}
+use Rattle.std.proofs.Common.{subst, Option, sym}
 use Rattle.std.specs.Prelude.{IfSome}
 use Rattle.k_types.specs.Known.{IsKnownName}
 use Rattle.k_types.specs.declared.names.Name.{Name}
-use Rattle.std.proofs.Common.{Option, sym}
-use Rattle.k_setup.proofs.Held.{held_known}
+use Rattle.k_laws.proofs.Held.{held_known}
 use Rattle.k_solo.proofs.viewing.PlainEndView.reg.Goals as goal
 
 pub returns-clause-known : goal.returns-clause-known

@@ -1,5 +1,5 @@
 use Rattle.std.proofs.Common.{◌≡◌, ◌<◌, not, List, length, slice_get, Option, Some, is_some, sym, ap, ap₂, ◌∙◌, arith}
-use Rattle.k_base.specs.k_types.Names.{name_of}
+use Rattle.k_types.specs.Names.{name_of}
 use Rattle.k_space.specs.Segments.{SegmentValue}
 use Rattle.k_space.specs.Areas.{AreaValue}
 use Rattle.k_space.proofs.Hinted.{exact_set, got}

@@ -1,5 +1,5 @@
 use Rattle.std.proofs.Common.{◌≡◌, None, List, map, replicate, ap, ◌∙◌}
-use Rattle.k_base.proofs.Lists.{map_replicate}
+use Rattle.k_types.proofs.Lists.{map_replicate}
 use Rattle.k_space.specs.Objects.{content_of}
 use Rattle.k_space.specs.declared.body.Stored.{Stored}
 use Rattle.k_space.specs.declared.body.Stored.TheVariants.{Null as StoredNull}

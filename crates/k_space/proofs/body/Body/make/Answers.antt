@@ -1,5 +1,5 @@
 use Rattle.std.proofs.Common.{sym, ap, ◌∙◌, map, arith, List}
-use Rattle.k_base.specs.k_types.Types.{type_row}
+use Rattle.k_types.specs.Types.{type_row}
 use Rattle.k_space.specs.Objects.{content_of}
 use Rattle.k_space.specs.declared.body.Stored.{Stored}
 use Rattle.k_space.proofs.Fields.{fields_more}

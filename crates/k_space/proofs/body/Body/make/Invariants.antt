@@ -1,7 +1,7 @@
 use Rattle.std.proofs.Common.{◌≡◌, ◌≤◌, map, take, vec_capacity}
 use Rattle.k_space.specs.Objects.{content_of}
-use Rattle.k_base.specs.k_types.State.{fresh}
-use Rattle.k_base.specs.k_types.Types.{type_row}
+use Rattle.k_types.specs.State.{fresh}
+use Rattle.k_types.specs.Types.{type_row}
 use Rattle.k_space.proofs.body.Body.make.Given as goal
 
 abbrev pub invariant-loop-i : goal.invariant-loop-i

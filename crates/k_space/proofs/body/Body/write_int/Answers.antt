@@ -1,6 +1,6 @@
 use Rattle.std.proofs.Common.{ap, ◌∙◌, slice_set}
 use Rattle.std.proofs.lemmas.List.{map-set}
-use Rattle.k_base.specs.k_types.State.{Holds}
+use Rattle.k_types.specs.State.{Holds}
 use Rattle.k_space.specs.Objects.{BodyValue, content_of}
 use Rattle.k_space.specs.declared.body.Stored.TheVariants.{Holds as StoredInt}
 use Rattle.k_space.proofs.body.Body.write_int.Goals as goal

@@ -1,7 +1,7 @@
 use Rattle.std.proofs.Common.{ap, ◌∙◌, slice_set, option_map, map}
 use Rattle.std.proofs.lemmas.List.{map-set}
-use Rattle.k_base.specs.k_types.Names.{name_of}
-use Rattle.k_base.specs.k_types.State.{Content, Refers}
+use Rattle.k_types.specs.Names.{name_of}
+use Rattle.k_types.specs.State.{Content, Refers}
 use Rattle.k_space.specs.Objects.{BodyValue, content_of}
 use Rattle.k_space.proofs.body.Body.write_ref.Goals as goal
 

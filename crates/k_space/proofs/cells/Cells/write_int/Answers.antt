@@ -1,6 +1,6 @@
 use Rattle.std.proofs.Common.{◌≡◌, slice_set, sym, ap, ◌∙◌, is_some}
 use Rattle.std.proofs.lemmas.Option.{slice_get_within}
-use Rattle.k_base.specs.k_types.State.{Holds}
+use Rattle.k_types.specs.State.{Holds}
 use Rattle.k_space.specs.Objects.{BodyValue}
 use Rattle.k_space.specs.declared.cells.Cell.{Cell}
 use Rattle.k_space.specs.declared.cells.SlotState.TheVariants.{Full}

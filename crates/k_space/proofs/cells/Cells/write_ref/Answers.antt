@@ -1,7 +1,7 @@
 use Rattle.std.proofs.Common.{◌≡◌, slice_set, option_map, sym, ap, ◌∙◌, is_some}
 use Rattle.std.proofs.lemmas.Option.{slice_get_within}
-use Rattle.k_base.specs.k_types.State.{Refers}
-use Rattle.k_base.specs.k_types.Names.{name_of}
+use Rattle.k_types.specs.State.{Refers}
+use Rattle.k_types.specs.Names.{name_of}
 use Rattle.k_space.specs.Objects.{BodyValue}
 use Rattle.k_space.specs.declared.cells.Cell.{Cell}
 use Rattle.k_space.specs.declared.cells.SlotState.TheVariants.{Full}

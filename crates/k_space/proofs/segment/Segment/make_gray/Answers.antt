@@ -1,5 +1,5 @@
 use Rattle.std.proofs.Common.{◌<◌, ℕ, Some, refl, sym, ap, subst, ◌∙◌, length, set, count_by, arith}
-use Rattle.k_base.proofs.Lists.{some_one}
+use Rattle.k_types.proofs.Lists.{some_one}
 use Rattle.k_space.specs.declared.marks.Place.TheVariants.{At}
 use Rattle.k_space.specs.declared.marks.Mark.TheVariants.{White as MarkWhite, Gray as MarkGray}
 use Rattle.k_space.specs.Segments.{Row, Color, with_row, gray_or_black}

@@ -1,5 +1,5 @@
 use Rattle.std.proofs.Common.{◌≡◌, ◌+◌, ◌≤◌, List, sym, ap, subst, length, arith}
-use Rattle.k_base.specs.k_types.Types.{object_size}
+use Rattle.k_types.specs.Types.{object_size}
 use Rattle.k_space.specs.declared.marks.Place.{Place}
 use Rattle.k_space.specs.Segments.{SegmentValue}
 use Rattle.k_space.specs.Places.{AreBytes}

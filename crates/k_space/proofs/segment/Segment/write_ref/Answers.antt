@@ -1,12 +1,11 @@
 use Rattle.std.proofs.Common.{◌≡◌, ◌<◌, Some, List, is_some, refl, sym, ap, subst, ◌∙◌, set, length, option_map}
 use Rattle.k_space.specs.declared.cells.Cell.{Cell}
-use Rattle.k_base.specs.k_types.State.{Content, Refers}
-use Rattle.k_base.specs.k_types.Names.{name_of}
+use Rattle.k_types.specs.State.{Content, Refers}
+use Rattle.k_types.specs.Names.{name_of}
 use Rattle.k_space.specs.Segments.{Row, with_row}
 use Rattle.std.proofs.lemmas.Option.{slice_get_within}
-use Rattle.k_space.proofs.Rows.{lies_in, same_cell, rewritten, rewritten_view}
+use Rattle.k_space.proofs.Rows.{lies_in, same_cell, rewritten, rewritten_view, slot_inside}
 use Rattle.std.proofs.lemmas.List.{length-set}
-use Rattle.k_space.proofs.Rows.{slot_inside}
 use Rattle.k_space.proofs.Bytes.{bytes_rewritten}
 use Rattle.k_space.proofs.segment.Segment.write_ref.Goals as goal
 

@@ -1,7 +1,7 @@
 use Rattle.std.proofs.Common.{◌≡◌, ◌<◌, ◌≤◌, ◌+◌, ◌-◌, ◌^◌, ◌==◌, ℕ, List, cond, length, length-set, get_or, set, ap, sym, ◌∙◌, refl, subst, arith}
 use Rattle.std.specs.Prelude.{filter, min}
 use Rattle.std.proofs.lemmas.List.{get_or_read}
-use Rattle.k_frame.proofs.Sizes.{zeros_at}
+use Rattle.k_laws.proofs.Sizes.{zeros_at}
 use Rattle.k_types.specs.declared.names.LimitId.{LimitId}
 use Rattle.k_types.specs.Totals.{total}
 use Rattle.k_types.specs.Numbers.{numbers_below}

@@ -5,7 +5,7 @@ use Rattle.k_types.specs.Trace.{row_of}
 use Rattle.k_state.specs.Machines.{IsPlain, Machine}
 use Rattle.k_state.proofs.Paths.{parent_known, path_hard, path_here, path_none, path_root, path_up}
 use Rattle.k_state.proofs.lists.PlainLists.full_limit.Goals as goal
-use Rattle.k_frame.proofs.Maxima.{length_in}
+use Rattle.k_laws.proofs.Maxima.{length_in}
 
 -- so many bytes more do not fit at the limit
 abbrev is_full : Machine → ℕ → ℕ → Bool

@@ -1,6 +1,6 @@
 use Rattle.std.proofs.Common.{◌≡◌, ◌<◌, ◌≤◌, ◌^◌, true, false, length, length-set, get_or, get_or-set_other, set, ap, sym, ◌∙◌, refl, subst, arith}
 use Rattle.std.proofs.lemmas.Bool.{not-false, not-true}
-use Rattle.k_frame.proofs.Sizes.{zeros_at}
+use Rattle.k_laws.proofs.Sizes.{zeros_at}
 use Rattle.k_types.specs.Names.{among}
 use Rattle.k_types.specs.Owners.{bytes_of}
 use Rattle.k_types.specs.Trace.{process_count}

@@ -5,7 +5,7 @@ use Rattle.k_types.specs.Trace.{no_row, row_of}
 use Rattle.k_state.specs.Machines.{Machine}
 use Rattle.k_types.specs.Bounds.{maximum_below}
 use Rattle.k_state.proofs.Rows.{row_in}
-use Rattle.k_setup.proofs.Shapes.{all_at_index}
+use Rattle.k_laws.proofs.SetupShapes.{all_at_index}
 use Rattle.k_state.proofs.lists.PlainLists.row.Goals as goal
 
 pub returns : goal.returns

@@ -1,7 +1,7 @@
 use Rattle.std.proofs.Common.{◌≡◌, ◌≤◌, length, arith}
 use Rattle.k_types.specs.Limits.{direct_by, limits_in, use_of}
 use Rattle.k_types.specs.Owners.{charge_of}
-use Rattle.k_frame.proofs.Maxima.{length_in, tree_in}
+use Rattle.k_laws.proofs.Maxima.{length_in, tree_in}
 use Rattle.k_state.proofs.Uses.{direct_past, use_past}
 use Rattle.k_state.proofs.lists.PlainLists.use_of.Goals as goal
 

@@ -2,7 +2,7 @@ use Rattle.std.proofs.Common.{rules, ◌≡◌, ◌<◌, ◌-◌, ◌+◌, ◌^�
 use Rattle.std.specs.Prelude.{min}
 use Rattle.k_types.specs.Limits.{direct_by, limits_in}
 use Rattle.k_types.specs.Owners.{charge_of}
-use Rattle.k_frame.proofs.Maxima.{length_in, tree_in}
+use Rattle.k_laws.proofs.Maxima.{length_in, tree_in}
 use Rattle.k_state.specs.Sums.{AreSums}
 use Rattle.k_state.proofs.Paths.{parent_known}
 use Rattle.k_state.proofs.Uses.{counted_up, up_begins, up_child, up_ends, up_root}

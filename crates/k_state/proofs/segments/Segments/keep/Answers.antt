@@ -1,6 +1,6 @@
 use Rattle.std.proofs.Common.{◌≡◌, ◌<◌, ◌==◌, ◌||◌, ℕ, not, filter, map, [], List, ap, ap₂, sym, ◌∙◌, subst, length, length-set, get_or, set, arith}
 use Rattle.std.proofs.lemmas.List.{get_or_read}
-use Rattle.k_frame.proofs.Lists.{length-kept}
+use Rattle.k_laws.proofs.Lists.{length-kept}
 use Rattle.k_types.specs.Owners.{object_bytes}
 use Rattle.k_types.specs.State.{Object}
 use Rattle.k_types.specs.Totals.{total}

@@ -4,8 +4,8 @@ use Rattle.k_tie.specs.Values.{NoteValue}
 use Rattle.k_tie.specs.Steps.{after_give, after_take, IsToldOf}
 use Rattle.k_tie.proofs.RuleKept.{takes, load_allows, gives}
 use Rattle.k_tie.proofs.journal.JournalSeat.apart_in_place.Goals as goal
-use Rattle.k_base.proofs.Sums.{one_if_same-same}
-use Rattle.k_base.specs.Counts.{one_if_same}
+use Rattle.k_types.proofs.Sums.{one_if_same-same}
+use Rattle.k_types.specs.Counts.{one_if_same}
 
 pub split_seat-one-requires : goal.split_seat-one-requires
 split_seat-one-requires c =

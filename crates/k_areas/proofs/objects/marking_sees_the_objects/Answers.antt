@@ -1,5 +1,0 @@
-use Rattle.k_areas.proofs.OfParts.{shows}
-use Rattle.k_areas.proofs.objects.marking_sees_the_objects.Goals as goal
-
-pub returns : goal.returns
-returns c = λ area bound none. shows area bound none

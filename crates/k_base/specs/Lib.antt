@@ -1,3 +1,0 @@
-pub mod Counts
-pub mod Distinct
-pub use Rattle.k_types.specs as k_types

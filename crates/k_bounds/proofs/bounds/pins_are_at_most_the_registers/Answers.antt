@@ -1,8 +1,0 @@
-use Rattle.k_bounds.proofs.Laws.{pins_are_at_most_the_registers-pins, pins_are_at_most_the_registers-entries}
-use Rattle.k_bounds.proofs.bounds.pins_are_at_most_the_registers.Goals as goal
-
-pub returns-clause-pins : goal.returns-clause-pins
-returns-clause-pins c = pins_are_at_most_the_registers-pins
-
-pub returns-clause-entries : goal.returns-clause-entries
-returns-clause-entries c = pins_are_at_most_the_registers-entries

@@ -1,5 +1,0 @@
-use Rattle.k_bounds.proofs.Laws.{serials_are_at_most_the_allocations}
-use Rattle.k_bounds.proofs.bounds.serials_are_at_most_the_allocations.Goals as goal
-
-pub returns : goal.returns
-returns c = serials_are_at_most_the_allocations

@@ -1,5 +1,0 @@
-use Rattle.k_bounds.proofs.Laws.{first_operations_count_less}
-use Rattle.k_bounds.proofs.processes.first_operations_count_less.Goals as goal
-
-pub returns : goal.returns
-returns c = first_operations_count_less

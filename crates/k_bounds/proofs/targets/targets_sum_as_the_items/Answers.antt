@@ -1,5 +1,0 @@
-use Rattle.k_bounds.proofs.Laws.{targets_sum_as_the_items}
-use Rattle.k_bounds.proofs.targets.targets_sum_as_the_items.Goals as goal
-
-pub returns : goal.returns
-returns c = targets_sum_as_the_items

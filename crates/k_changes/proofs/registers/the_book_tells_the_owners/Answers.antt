@@ -1,5 +1,0 @@
-use Rattle.k_changes.proofs.Laws.{the_book_tells_the_owners}
-use Rattle.k_changes.proofs.registers.the_book_tells_the_owners.Goals as goal
-
-pub returns : goal.returns
-returns c = the_book_tells_the_owners

@@ -1,5 +1,0 @@
-use Rattle.k_changes.proofs.Laws.{a_collection_begins_from_its_cell_and_the_book}
-use Rattle.k_changes.proofs.roots.a_collection_begins_from_its_cell_and_the_book.Goals as goal
-
-pub returns : goal.returns
-returns c = a_collection_begins_from_its_cell_and_the_book

@@ -1,8 +1,0 @@
-use Rattle.k_changes.proofs.Laws.{what_closing_changes-cells, what_closing_changes-book}
-use Rattle.k_changes.proofs.sharing.what_closing_changes.Goals as goal
-
-pub returns-clause-cells : goal.returns-clause-cells
-returns-clause-cells c = what_closing_changes-cells
-
-pub returns-clause-book : goal.returns-clause-book
-returns-clause-book c = what_closing_changes-book

@@ -1,5 +1,0 @@
-use Rattle.k_kept.proofs.Laws.{ended_collections_credit_what_goes}
-use Rattle.k_kept.proofs.charges.ended_collections_credit_what_goes.Goals as goal
-
-pub returns : goal.returns
-returns c = ended_collections_credit_what_goes

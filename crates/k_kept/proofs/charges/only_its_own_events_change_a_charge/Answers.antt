@@ -1,5 +1,0 @@
-use Rattle.k_kept.proofs.Laws.{only_its_own_events_change_a_charge}
-use Rattle.k_kept.proofs.charges.only_its_own_events_change_a_charge.Goals as goal
-
-pub returns : goal.returns
-returns c = only_its_own_events_change_a_charge

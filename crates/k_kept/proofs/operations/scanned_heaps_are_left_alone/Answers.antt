@@ -1,5 +1,0 @@
-use Rattle.k_kept.proofs.Laws.{scanned_heaps_are_left_alone}
-use Rattle.k_kept.proofs.operations.scanned_heaps_are_left_alone.Goals as goal
-
-pub returns : goal.returns
-returns c = scanned_heaps_are_left_alone

@@ -1,5 +1,0 @@
-use Rattle.k_kept.proofs.Laws.{ended_processes_stay_ended}
-use Rattle.k_kept.proofs.owners.ended_processes_stay_ended.Goals as goal
-
-pub returns : goal.returns
-returns c = ended_processes_stay_ended

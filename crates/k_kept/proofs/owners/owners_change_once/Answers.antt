@@ -1,8 +1,0 @@
-use Rattle.k_kept.proofs.Laws.{owners_change_once-step, owners_change_once-kernel}
-use Rattle.k_kept.proofs.owners.owners_change_once.Goals as goal
-
-pub returns-clause-step : goal.returns-clause-step
-returns-clause-step c = owners_change_once-step
-
-pub returns-clause-kernel : goal.returns-clause-kernel
-returns-clause-kernel c = owners_change_once-kernel

@@ -1,5 +1,0 @@
-use Rattle.k_known.proofs.Laws.{objects_are_at_most_the_serials}
-use Rattle.k_known.proofs.fits.objects_are_at_most_the_serials.Goals as goal
-
-pub returns : goal.returns
-returns c = objects_are_at_most_the_serials

@@ -1,5 +1,0 @@
-use Rattle.k_known.proofs.Laws.{objects_fit_their_types}
-use Rattle.k_known.proofs.fits.objects_fit_their_types.Goals as goal
-
-pub returns : goal.returns
-returns c = objects_fit_their_types

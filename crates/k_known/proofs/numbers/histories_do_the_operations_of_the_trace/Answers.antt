@@ -1,5 +1,0 @@
-use Rattle.k_known.proofs.Laws.{histories_do_the_operations_of_the_trace}
-use Rattle.k_known.proofs.numbers.histories_do_the_operations_of_the_trace.Goals as goal
-
-pub returns : goal.returns
-returns c = histories_do_the_operations_of_the_trace

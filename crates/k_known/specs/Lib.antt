@@ -1,2 +1,0 @@
-pub mod Fits
-pub use Rattle.k_bounds.specs.Counts

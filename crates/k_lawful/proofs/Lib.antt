@@ -1,3 +1,0 @@
-pub mod Refused
-pub mod Laws
-pub mod Live

@@ -1,5 +1,0 @@
-use Rattle.k_lawful.proofs.Live.{live_is_least}
-use Rattle.k_lawful.proofs.liveness.what_is_live_is_the_least_closed_set.Goals as goal
-
-pub returns : goal.returns
-returns c = live_is_least

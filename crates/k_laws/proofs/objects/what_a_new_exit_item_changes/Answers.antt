@@ -1,0 +1,11 @@
+use Rattle.k_laws.proofs.ChangesLaws.{what_a_new_exit_item_changes-cell, what_a_new_exit_item_changes-others, what_a_new_exit_item_changes-book}
+use Rattle.k_laws.proofs.objects.what_a_new_exit_item_changes.Goals as goal
+
+pub returns-clause-cell : goal.returns-clause-cell
+returns-clause-cell c = what_a_new_exit_item_changes-cell
+
+pub returns-clause-others : goal.returns-clause-others
+returns-clause-others c = what_a_new_exit_item_changes-others
+
+pub returns-clause-book : goal.returns-clause-book
+returns-clause-book c = what_a_new_exit_item_changes-book

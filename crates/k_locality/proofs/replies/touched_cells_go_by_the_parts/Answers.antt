@@ -1,8 +1,0 @@
-use Rattle.k_locality.proofs.Laws.{touched_cells_go_by_the_parts-touched, touched_cells_go_by_the_parts-turned}
-use Rattle.k_locality.proofs.replies.touched_cells_go_by_the_parts.Goals as goal
-
-pub returns-clause-touched : goal.returns-clause-touched
-returns-clause-touched c = touched_cells_go_by_the_parts-touched
-
-pub returns-clause-turned : goal.returns-clause-turned
-returns-clause-turned c = touched_cells_go_by_the_parts-turned

@@ -1,5 +1,0 @@
-use Rattle.k_locked.proofs.RoomLeft.{shared_room}
-use Rattle.k_locked.proofs.rooms.shared_heaps_have_room.Goals as goal
-
-pub returns : goal.returns
-returns c = shared_room

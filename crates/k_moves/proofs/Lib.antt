@@ -1,9 +1,0 @@
-pub mod Idle
-pub mod Followed
-pub mod Committed
-pub mod Changed
-pub mod Given
-pub mod Beside
-pub mod Stored
-pub mod Killing
-pub use Rattle.k_squares.proofs.Laws

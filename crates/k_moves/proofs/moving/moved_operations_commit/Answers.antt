@@ -1,8 +1,0 @@
-use Rattle.k_moves.proofs.Committed.{commit_alone, commit_both}
-use Rattle.k_moves.proofs.moving.moved_operations_commit.Goals as goal
-
-pub returns-clause-alone : goal.returns-clause-alone
-returns-clause-alone c = commit_alone
-
-pub returns-clause-both : goal.returns-clause-both
-returns-clause-both c = commit_both

@@ -1,5 +1,0 @@
-use Rattle.k_moves.proofs.Followed.{moved_alone}
-use Rattle.k_moves.proofs.moving.operations_alone_move.Goals as goal
-
-pub returns : goal.returns
-returns c = moved_alone

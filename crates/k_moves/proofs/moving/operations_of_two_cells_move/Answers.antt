@@ -1,5 +1,0 @@
-use Rattle.k_moves.proofs.Followed.{moved_both}
-use Rattle.k_moves.proofs.moving.operations_of_two_cells_move.Goals as goal
-
-pub returns : goal.returns
-returns c = moved_both

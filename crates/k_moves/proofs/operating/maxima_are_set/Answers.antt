@@ -1,5 +1,0 @@
-use Rattle.k_moves.proofs.Killing.{resize_alone}
-use Rattle.k_moves.proofs.operating.maxima_are_set.Goals as goal
-
-pub returns : goal.returns
-returns c = resize_alone

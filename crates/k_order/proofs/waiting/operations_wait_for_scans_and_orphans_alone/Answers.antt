@@ -1,5 +1,0 @@
-use Rattle.k_order.proofs.Laws.{operations_wait_for_scans_and_orphans_alone}
-use Rattle.k_order.proofs.waiting.operations_wait_for_scans_and_orphans_alone.Goals as goal
-
-pub returns : goal.returns
-returns c = operations_wait_for_scans_and_orphans_alone

@@ -1,8 +1,0 @@
-use Rattle.k_squares.proofs.Laws.{steps_go_by_the_parts-cells, steps_go_by_the_parts-book}
-use Rattle.k_squares.proofs.steps.steps_go_by_the_parts.Goals as goal
-
-pub returns-clause-cells : goal.returns-clause-cells
-returns-clause-cells c = steps_go_by_the_parts-cells
-
-pub returns-clause-book : goal.returns-clause-book
-returns-clause-book c = steps_go_by_the_parts-book
