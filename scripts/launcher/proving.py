@@ -24,6 +24,8 @@ MEMORY_EACH_KB = 2_600_000
 # With so much free memory for each processor rt has as many proofs run at once by its own estimates, which are high.
 AMPLE_MEMORY_EACH_KB = 5_000_000
 LINES_SHOWN = 60
+# The checker's allocator keeps what it has freed. It would give it back to the system after a second, and take it again soon.
+KEEPS_FREED = {"MIMALLOC_PURGE_DELAY": "-1"}
 # Crates of the longest chain, each with a call of rt for it and what it stands on: the last crate of a call gets two processors, and one where rt
 # sees others that could begin with it.
 CHAIN = ("k_space", "k_cell", "k_operate", "k_worker")
@@ -111,7 +113,7 @@ class Build:
     def begin(self, names, env, behind=0):
         """Begins a call of rt for these crates and what they stand on, or for all, and gives the call. It comes behind others by so much."""
         # (rt copies the crates for a call with names)
-        how = {"cwd": self.at, "env": {**env, "TMPDIR": os.path.dirname(self.at)}, "stdin": subprocess.DEVNULL, "stderr": subprocess.STDOUT}
+        how = {"cwd": self.at, "env": {**KEEPS_FREED, **env, "TMPDIR": os.path.dirname(self.at)}, "stdin": subprocess.DEVNULL, "stderr": subprocess.STDOUT}
         words = ["nice", "-n", str(behind), "rt", "ci", *names]
         call = subprocess.Popen(words, stdout=subprocess.PIPE, text=True, errors="replace", **how)
         self.calls.append(call)
