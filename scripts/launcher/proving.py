@@ -2,8 +2,9 @@
 
 `rt ci` gives each proof as many processors as no other proof waits for when it begins, and never more. So a long proof for which much
 waits keeps the one that it began with, and others are idle behind it. Where there is memory for it, several calls of rt therefore run at once:
-some for crates of the longest chain and what they stand on, one for the answers, where the program has them, and one for the program. Each takes
-from the kit's store what another has proved. The system shares the processors between them.
+some for crates of the longest chain and what they stand on, one for what the run stands on besides, where the program has the answers one for
+these and one for the run, and in the end one for the program. Each takes from the kit's store what another has proved. The system shares the
+processors between them.
 """
 import collections
 import contextlib
@@ -27,10 +28,11 @@ LINES_SHOWN = 60
 # The checker's allocator keeps what it has freed. It would give it back to the system after a second, and take it again soon.
 KEEPS_FREED = {"MIMALLOC_PURGE_DELAY": "-1"}
 # Crates of the longest chain, each with a call of rt for it and what it stands on: the last crate of a call gets two processors, and one where rt
-# sees others that could begin with it.
-CHAIN = ("k_space", "k_cell", "k_operate", "k_worker")
-# A program with the answers has a call for the run and one for them, and its own begins once all is proved on which the run stands. The answers
-# come behind the run, as `nice` counts it, and have half of the processors: less is to be proved for them, and the program needs both.
+# sees others that could begin with it, or where another call comes to the crate first. So the last of these is in no other call that comes to
+# it before its proof has begun, and likewise the run.
+CHAIN = ("k_space", "k_cell", "k_worker")
+# A program with the answers has a call for the run, beside which it has others to prove, and one for the answers. These come behind the run, as
+# `nice` counts it, and have half of the processors: less is to be proved for them, and the program needs both.
 RUN, ANSWERS, BEHIND = "k_run", "k_answers", 2
 TOLD = re.compile(r"rt: (\w+) (?:(proved)|(is kept)\b.*|NOT PROVED\b.*)\n")
 
@@ -104,16 +106,17 @@ class Build:
         self.began, self.used = time.monotonic(), 0.0
         # All calls, and those of them that run beside the one for the program, with the threads that follow these.
         self.calls, self.others, self.threads = [], [], []
-        self.last, self.turn = collections.deque(maxlen=LINES_SHOWN), threading.Lock()
+        self.last, self.turn = collections.deque(maxlen=LINES_SHOWN), threading.Condition()
         # The crates that were told of, each with whether it was proved now; the one that is not proved, if one is not.
         self.told, self.failed = {}, None
-        # Whether calls take what others have proved; the crates on which the run stands, and what is set once all of them are proved.
-        self.is_shared, self.below_run, self.is_near = True, set(), threading.Event()
+        # Whether calls take what others have proved, and whether one has ended before it had done all.
+        self.is_shared, self.is_cut = True, False
 
     def begin(self, names, env, behind=0):
         """Begins a call of rt for these crates and what they stand on, or for all, and gives the call. It comes behind others by so much."""
         # (rt copies the crates for a call with names)
-        how = {"cwd": self.at, "env": {**KEEPS_FREED, **env, "TMPDIR": os.path.dirname(self.at)}, "stdin": subprocess.DEVNULL, "stderr": subprocess.STDOUT}
+        how = {"cwd": self.at, "stdin": subprocess.DEVNULL, "stderr": subprocess.STDOUT}
+        how["env"] = {**KEEPS_FREED, **env, "TMPDIR": os.path.dirname(self.at)}
         words = ["nice", "-n", str(behind), "rt", "ci", *names]
         call = subprocess.Popen(words, stdout=subprocess.PIPE, text=True, errors="replace", **how)
         self.calls.append(call)
@@ -136,9 +139,17 @@ class Build:
                 for line in call.stdout:
                     with self.turn:
                         self.take(line)
+                        self.turn.notify_all()
         finally:
-            if call.wait() or all(it.poll() is not None for it in self.others):
-                self.is_near.set()
+            status = call.wait()
+            with self.turn:
+                self.is_cut = self.is_cut or bool(status)
+                self.turn.notify_all()
+
+    def wait_for(self, crates):
+        """Waits until all of these crates are told of, or until calls have ended so that they may never be."""
+        with self.turn:
+            self.turn.wait_for(lambda: crates <= {*self.told} or self.is_cut or all(it.poll() is not None for it in self.others))
 
     def take(self, line):
         """Takes one line that a call has said."""
@@ -165,8 +176,6 @@ class Build:
             self.failed = crate
             self.end(self.calls)
         self.told.setdefault(crate, is_proved)
-        if self.below_run <= {*self.told}:
-            self.is_near.set()
 
     def go_alone(self):
         """Ends the calls beside the one for the program, so that this one does all."""
@@ -175,21 +184,23 @@ class Build:
             self.end(self.others)
 
     def end(self, calls):
-        """Ends those of these calls that still run. Nobody waits any more then."""
+        """Ends those of these calls that still run."""
         for call in calls:
             call.terminate()
-        self.is_near.set()
 
     def beside(self, need, lists, env):
-        """Begins the calls beside the one for the program. With the answers it waits until all is proved on which the run stands, or calls have
-        ended before."""
-        self.below_run = {*sources.with_below(lists, RUN)} - {RUN}
+        """Begins the calls beside the one for the program, and waits until that one can begin."""
+        last = CHAIN[-1]
         for crate in CHAIN:
             self.add([crate], env)
+        self.add([it for it in lists[RUN] if it in lists and it != last], env)
+        if ANSWERS in need:
+            self.add([ANSWERS], one_each(max(1, at_once() // 2)), BEHIND)
+        # (a call takes some time before it comes to its first crate that is not kept)
+        self.wait_for({*sources.with_below(lists, last)} - {last})
         if ANSWERS in need:
             self.add([RUN], env)
-            self.add([ANSWERS], one_each(max(1, at_once() // 2)), BEHIND)
-            self.is_near.wait()
+            self.wait_for({last})
 
     def whole(self, need, lists, env):
         """Proves and builds the program, and gives whether that went well."""

@@ -105,7 +105,7 @@ class Beside(unittest.TestCase):
         "kaffe_run": {**BELOW, "kaffe_run": ["k_run", "k_status"]},
     }
     # The calls beside those for the chain and for the program.
-    MORE = {"kaffe": ["k_answers with 2 behind by 2", "k_run"], "kaffe_run": []}
+    MORE = {"kaffe": ["k_answers with 2 behind by 2", "k_io", "k_run"], "kaffe_run": ["k_io"]}
 
     def setUp(self):
         self.room = tempfile.mkdtemp(prefix="test-launcher-")
