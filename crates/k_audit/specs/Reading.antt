@@ -22,7 +22,7 @@ use Rattle.k_trace.specs.Numbered.{proc_named, shared_named, type_named}
 use Rattle.k_text.specs.Named.{segment_names}
 use Rattle.k_reports.specs.Reading.{heap_named, name_of_word}
 use Rattle.k_state.specs.Stills.{blank}
-use Rattle.k_io.specs.k_memory.declared.no_memory.NoMemory.{NoMemory as Lack}
+use Rattle.k_types.specs.declared.no_memory.NoMemory.{NoMemory as Lack}
 use Rattle.k_audit.specs.Claims.{Claims, Snap}
 use Rattle.k_audit.specs.Grammar.{share_place}
 use Rattle.k_audit.specs.declared.errors.SnapshotError.{SnapshotError}

@@ -1,3 +1,7 @@
+pub mod Pinned
+pub mod Lasting
+pub mod Counted
+pub mod Appended
 pub mod Numbers
 pub mod Resized
 pub mod Telling
@@ -10,10 +14,9 @@ pub use Rattle.k_agree.proofs.Published
 pub use Rattle.k_agree.proofs.WithinRooms
 pub use Rattle.k_agree.proofs.Laws
 pub use Rattle.k_agree.proofs.ToldBy
-pub use Rattle.k_entered.proofs.WholeWalks
+pub use Rattle.k_entry.proofs.WholeWalks
 pub use Rattle.k_agree.proofs.LawsLaws
 pub use Rattle.k_agree.proofs.Means
 pub use Rattle.k_agree.proofs.SoundSteps
 pub use Rattle.k_agree.proofs.SoundStore
 pub use Rattle.k_agree.proofs.UseShown
-pub use Rattle.k_journal.proofs.Counted

@@ -13,7 +13,7 @@ use Rattle.k_types.specs.State.{has_share}
 use Rattle.k_types.proofs.NameTests.{name_eq-true}
 use Rattle.k_types.proofs.Tests.{same_test}
 use Rattle.k_agree.specs.k_laws.BookChanges.{keeping_shares, pins_by, with_entry, with_pin_moved, with_share, without_entries}
-use Rattle.k_entered.specs.k_entry.Entries.{HasLess, HasMore}
+use Rattle.k_entry.specs.Entries.{HasLess, HasMore}
 use Rattle.k_agree.specs.Ending.{HasLeft}
 use Rattle.k_agree.specs.GivingOnTheBook.{HasEntered, HasUnpinned}
 use Rattle.k_shares.specs.Sharers.{GainsEnded, GainsShare, LosesShare}

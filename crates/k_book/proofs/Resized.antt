@@ -6,8 +6,8 @@ use Rattle.k_types.specs.declared.setup.LimitRow.{LimitRow}
 use Rattle.k_types.specs.Limits.{with_maxima}
 use Rattle.k_types.specs.Trace.{row_of}
 use Rattle.k_types.proofs.Maxima.{length_in, maxima_count, own_maxima, twice_in}
-use Rattle.k_entered.specs.Entered.{EnteredValue}
-use Rattle.k_journal.specs.Kept.{KeptJournal}
+use Rattle.k_book.specs.Entered.{EnteredValue}
+use Rattle.k_book.specs.Kept.{KeptJournal}
 use Rattle.k_limits.specs.Limits.{ChargedLimits, charged_limits}
 use Rattle.k_shares.specs.Sharers.{ShareValue}
 use Rattle.k_book.specs.Books.{BookRecord, book_by, book_limits, without_maxima}

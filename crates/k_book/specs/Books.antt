@@ -8,12 +8,12 @@ use Rattle.k_types.specs.Bounds.{register_count}
 use Rattle.k_types.specs.Limits.{with_maxima}
 use Rattle.k_types.specs.Trace.{trace_of}
 use Rattle.k_limits.specs.Limits.{ChargedLimits, charged_limits}
-use Rattle.k_entered.specs.k_entry.Entries.{EntryValue}
+use Rattle.k_entry.specs.Entries.{EntryValue}
 use Rattle.k_agree.specs.k_tie.Values.{JournalValue}
 use Rattle.k_agree.specs.Opening.{opening_book}
 use Rattle.k_shares.specs.Sharers.{ShareValue}
-use Rattle.k_journal.specs.Kept.{KeptJournal}
-use Rattle.k_entered.specs.Entered.{EnteredValue}
+use Rattle.k_book.specs.Kept.{KeptJournal}
+use Rattle.k_book.specs.Entered.{EnteredValue}
 
 -- the limits with no maxima: which is whose parent, and which are hard
 abbrev pub without_maxima : List LimitRow → List LimitRow

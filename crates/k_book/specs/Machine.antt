@@ -10,7 +10,7 @@ use Rattle.k_types.specs.Owners.{bytes_of, owner_of, phase_of, shared}
 use Rattle.k_types.specs.State.{State, has_share}
 use Rattle.k_types.specs.Steps.{is_orphan}
 use Rattle.k_types.specs.Trace.{Trace, segment_count}
-use Rattle.k_entered.specs.k_entry.Entries.{home_of}
+use Rattle.k_entry.specs.Entries.{home_of}
 use Rattle.k_limits.specs.Limits.{full_at, use_at}
 use Rattle.k_shares.specs.Sharers.{lowest_orphan}
 use Rattle.k_book.specs.Books.{BookRecord, book_limits, without_maxima}

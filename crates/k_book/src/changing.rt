@@ -3,8 +3,8 @@ ghost use Rattle.std.specs.Prelude.{◌≡◌, ◌+◌, ◌-◌, ◌<◌, ◌≤
 ghost use Rattle.k_types.specs.Counted.{counted};
 ghost use Rattle.k_types.specs.Names.{among, name_of};
 ghost use Rattle.k_types.specs.State.{has_share};
-ghost use Rattle.k_entered.specs.k_entry.Entries.{AreEntries, HasLess, HasMore};
-ghost use Rattle.k_entered.specs.Entered.{HasRehomed};
+ghost use Rattle.k_entry.specs.Entries.{AreEntries, HasLess, HasMore};
+ghost use Rattle.k_book.specs.Entered.{HasRehomed};
 ghost use Rattle.k_limits.specs.Limits.{full_at, use_at};
 ghost use Rattle.k_shares.specs.Sharers.{bytes_in_phase, GainsEnded, GainsShare, LosesShare};
 ghost use Rattle.k_book.specs.Books.{book_entries, book_limits, book_pins};

@@ -2,7 +2,7 @@
 ghost use Rattle.std.specs.Prelude.{◌≡◌, ◌<◌, ◌≤◌, ◌^◌, IfOk, OnErr, length};
 
 use crate::parts::Book;
-use k_entered::EntryRoom;
+use k_entry::EntryRoom;
 use k_types::NoMemory;
 
 impl Book {

@@ -6,7 +6,7 @@ ghost use Rattle.k_types.specs.Trace.{trace_of};
 ghost use Rattle.k_agree.specs.Opening.{homes_at_first};
 ghost use Rattle.k_book.specs.Books.{HasFewSegments, pin_room_of};
 
-use k_entered::EnteredTables;
+use crate::tables::EnteredTables;
 use k_types::{Heap, LimitId, NoMemory, Pid, REGISTERS, Setup, SharedId, push};
 use std::alloc::Global;
 

@@ -2,8 +2,8 @@
 ghost use Rattle.std.specs.Prelude.{◌≡◌, ◌≢◌, ◌+◌, ◌<◌, ◌≤◌, ◌^◌, ◌++◌, Some, length, slice_get};
 ghost use Rattle.k_types.specs.Complete.{IsPrefixOf};
 ghost use Rattle.k_agree.specs.k_tie.Rule.{total_of};
-ghost use Rattle.k_journal.specs.Kept.{with_event, with_events, with_touch, with_touches};
-ghost use Rattle.k_journal.specs.Objects.{objects_told};
+ghost use Rattle.k_book.specs.Kept.{with_event, with_events, with_touch, with_touches};
+ghost use Rattle.k_book.specs.Objects.{objects_told};
 
 use crate::parts::Book;
 use k_agree::Note;

@@ -4,9 +4,9 @@ ghost use Rattle.k_limits.specs.Rows.{AreRows, Explains, first_refused};
 ghost use Rattle.k_book.specs.Books.{HasFewSegments, opened};
 
 use crate::homes::{first_limits, first_tables};
+use crate::keeping::Journal;
+use crate::tables::EnteredTables;
 use k_agree::{JournalSeat, Tie};
-use k_entered::EnteredTables;
-use k_journal::Journal;
 use k_limits::{LimitTree, MakeError};
 use k_shares::ShareTable;
 use k_types::{LimitId, Setup};

@@ -5,7 +5,7 @@ ghost use Rattle.k_types.specs.Limits.{ancestors_of, max_of};
 ghost use Rattle.k_types.specs.Names.{among};
 ghost use Rattle.k_types.specs.Owners.{phase_of};
 ghost use Rattle.k_types.specs.State.{has_share};
-ghost use Rattle.k_entered.specs.k_entry.Entries.{AreEntries, home_of};
+ghost use Rattle.k_entry.specs.Entries.{AreEntries, home_of};
 ghost use Rattle.k_limits.specs.Limits.{use_at};
 ghost use Rattle.k_shares.specs.Sharers.{heap_number, living_of, lowest_orphan};
 ghost use Rattle.k_book.specs.Books.{book_entries, book_limits, book_pins};

@@ -9,7 +9,7 @@ ghost use Rattle.k_types.specs.Cells.{BookPart};
 ghost use Rattle.k_types.specs.Names.{heap_eq, name_eq};
 ghost use Rattle.k_types.specs.Owners.{is_absorbed, user};
 ghost use Rattle.k_agree.specs.k_laws.BookChanges.{keeping_shares, with_charge, with_credit, with_entry, with_phase, with_pin_moved, with_share, with_shared_bytes, without_entries};
-ghost use Rattle.k_entered.specs.k_entry.Entries.{HasLess, HasMore};
+ghost use Rattle.k_entry.specs.Entries.{HasLess, HasMore};
 ghost use Rattle.k_agree.specs.Ending.{HasLeft};
 ghost use Rattle.k_agree.specs.GivingOnTheBook.{HasEntered, HasUnpinned};
 ghost use Rattle.k_shares.specs.Sharers.{GainsEnded, GainsShare, LosesShare, bytes_in_phase};

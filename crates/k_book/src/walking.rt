@@ -2,8 +2,8 @@
 ghost use Rattle.std.specs.Prelude.{◌≡◌, ◌<◌, option_map, vec_capacity};
 ghost use Rattle.k_types.specs.Counted.{counted};
 ghost use Rattle.k_types.specs.Names.{name_of};
-ghost use Rattle.k_entered.specs.k_entry.Copies.{IsCopied};
-ghost use Rattle.k_entered.specs.k_entry.Entries.{AreEntries, first_object, home_of, items_of, object_after, objects};
+ghost use Rattle.k_entry.specs.Copies.{IsCopied};
+ghost use Rattle.k_entry.specs.Entries.{AreEntries, first_object, home_of, items_of, object_after, objects};
 ghost use Rattle.k_book.specs.Books.{book_entries, book_pins};
 
 use crate::parts::Book;

@@ -5,7 +5,7 @@ use Rattle.k_types.specs.declared.op.Op.{Op}
 use Rattle.k_laws.specs.Locals.{is_local_in}
 use Rattle.k_agree.specs.Shown.{idle_part}
 use Rattle.k_heap.specs.Heaps.{HeapRecord}
-use Rattle.k_operate.specs.k_local.Locals.{after_local, local_answer}
+use Rattle.k_operate.specs.k_process.Locals.{after_local, local_answer}
 use Rattle.k_guests.proofs.LocalKept.{local_agrees, local_is_possible}
 use Rattle.k_guests.specs.declared.guest.Guest.{Guest}
 use Rattle.k_calls.specs.Doing.{CanDoInside, HasDoneInside}

@@ -7,7 +7,7 @@ use Rattle.k_types.specs.declared.names.TypeId.{TypeId}
 use Rattle.k_types.specs.declared.op.Op.{Op}
 use Rattle.k_types.specs.declared.op.Op.TheVariants.{New, KNew, SNew}
 use Rattle.k_types.specs.Steps.{in_range}
-use Rattle.k_bodies.specs.Bodies.{type_made}
+use Rattle.k_operate.specs.k_process.Bodies.{type_made}
 use Rattle.k_laws.specs.Counts.{one_if}
 use Rattle.k_space.specs.Objects.{BodyValue, new_body}
 use Rattle.k_guests.specs.declared.guest.Guest.{Guest}

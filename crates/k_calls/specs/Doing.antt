@@ -13,7 +13,7 @@ use Rattle.k_types.specs.Agree.{book_shown_by}
 use Rattle.k_types.specs.Cells.{Cell}
 use Rattle.k_types.specs.Steps.{IsPossible, in_range, state_after}
 use Rattle.k_laws.specs.PartUpdates.{done_in}
-use Rattle.k_bodies.specs.Bodies.{type_made}
+use Rattle.k_operate.specs.k_process.Bodies.{type_made}
 use Rattle.k_laws.specs.Counts.{one_if}
 use Rattle.k_laws.specs.Locals.{is_local_in}
 use Rattle.k_laws.specs.Touches.{other_cells_in}
@@ -21,7 +21,7 @@ use Rattle.k_agree.specs.Shown.{idle_part}
 use Rattle.k_book.specs.Books.{BookRecord}
 use Rattle.k_cell.specs.Holdings.{HoldingsValue}
 use Rattle.k_heap.specs.Heaps.{has_ended_in}
-use Rattle.k_operate.specs.k_local.Locals.{after_local}
+use Rattle.k_operate.specs.k_process.Locals.{after_local}
 use Rattle.k_operate.specs.Own.{is_collect}
 use Rattle.k_operate.specs.Operating.{collects_or_exits}
 use Rattle.k_shared.specs.SharedHeaps.{SharedRecord}

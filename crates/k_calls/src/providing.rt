@@ -1,6 +1,6 @@
 //! The body of the object that an operation makes, before it is done.
 ghost use Rattle.std.specs.Prelude.{◌≡◌, ◌<◌, ◌↔◌, ◌∷◌, IfErr, IfSome, IsTrue, OnErr, OnOk, length};
-ghost use Rattle.k_bodies.specs.Bodies.{type_made};
+ghost use Rattle.k_operate.specs.k_process.Bodies.{type_made};
 ghost use Rattle.k_calls.specs.Doing.{HasItsBody, provided_for};
 ghost use Rattle.k_calls.specs.Refusals.{Lacks};
 ghost use Rattle.k_guests.specs.Serving.{basis_of, supply_of};

@@ -1,5 +1,5 @@
 //! Events that come back as they were appended.
-use k_journal::Journal;
+use k_book::Journal;
 use k_tie::Tie;
 use k_types::{Event, Op, Pid, Reg, Reply, SharedId};
 use std::test::Fail;

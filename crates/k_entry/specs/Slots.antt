@@ -7,7 +7,7 @@ use Rattle.k_types.specs.declared.names.Heap.TheVariants.{Kernel, User, Shared}
 use Rattle.k_types.specs.Names.{name_eq, heap_eq}
 use Rattle.k_types.specs.Counted.{Counted}
 use Rattle.k_lists.specs.Lists.{ListsValue, AreApart, IsFree, members, is_in, without}
-use Rattle.k_hash.specs.Hash.{bucket as chain}
+use Rattle.k_lists.specs.Hash.{bucket as chain}
 use Rattle.k_entry.specs.declared.item.Item.{Item}
 use Rattle.k_entry.specs.Entries.{EntryValue, home_of}
 

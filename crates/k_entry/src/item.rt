@@ -45,7 +45,7 @@ pub(crate) fn chain_of(target: Name, room: u32) -> usize
     ensures value { result ≡ bucket room target }
     ensures within { result < buckets room }
 {
-    k_hash::chain_of(chain_count(room), target)
+    k_lists::chain_of(chain_count(room), target)
 }
 
 /// The slot of the object in that chain, if it is there.

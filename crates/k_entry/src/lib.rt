@@ -11,7 +11,7 @@
 //! spreads the objects and no two heaps share a walk number, each call but [`EntryTable::make`],
 //! [`EntryTable::copy_of`] and those that change the room takes constant time.
 //!
-//! The crate stands on `k_types` for names, heaps, want of memory and lemmas, and on `k_hash` and `k_lists` for the lists.
+//! The crate stands on `k_types` for names, heaps, want of memory and lemmas, and on `k_lists` for the hash and the lists.
 #![tactic(auto)]
 
 mod copying;

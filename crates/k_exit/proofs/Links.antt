@@ -4,7 +4,7 @@ use Rattle.std.proofs.lemmas.Bool.{cases_eq, cases_lt, false≢true, and_from, a
 use Rattle.k_types.specs.declared.names.Name.{Name}
 use Rattle.k_types.specs.Names.{name_eq}
 use Rattle.k_exit.specs.declared.chains.Item.{Item}
-use Rattle.k_hash.specs.Hash.{bucket}
+use Rattle.k_lists.specs.Hash.{bucket}
 use Rattle.k_exit.specs.Chains.{at, last, in_chain, IsChained}
 use Rattle.k_exit.proofs.Last.{last_hit, last_skips, last_within}
 

@@ -4,7 +4,7 @@ use Rattle.std.proofs.lemmas.Bool.{cases_eq, cases_lt}
 use Rattle.std.proofs.Math.Seq.{map-set_same}
 use Rattle.std.proofs.lemmas.List.{get_or-set_same, get_or-set_other, length-set, get_or_default}
 use Rattle.k_exit.specs.declared.chains.Item.{Item}
-use Rattle.k_hash.specs.Hash.{bucket}
+use Rattle.k_lists.specs.Hash.{bucket}
 use Rattle.k_exit.specs.Chains.{row_of, blank, at, with_next, last, top, in_chain, IsLinked, IsChained, IsLinkedAbove, IsNextAbove, HasNoneAbove, IsClimb}
 use Rattle.k_exit.proofs.Last.{last_hit, last_skips, last_within, last_same, last_low, last_left_high, last_left_low, last_left_here, last_here}
 use Rattle.k_exit.proofs.Links.{in_from, in_bucket, in_not, in_out, not_in, out_other}

@@ -3,7 +3,7 @@ use Rattle.std.proofs.Common.{◌≡◌, ◌≢◌, ◌==◌, ℕ, zero, suc, �
 use Rattle.std.proofs.lemmas.Bool.{cases_eq}
 use Rattle.std.proofs.lemmas.List.{length-map}
 use Rattle.k_exit.specs.declared.chains.Item.{Item}
-use Rattle.k_hash.specs.Hash.{bucket}
+use Rattle.k_lists.specs.Hash.{bucket}
 use Rattle.k_exit.specs.Chains.{row_of, at, last, in_chain, IsLinked, IsChained}
 use Rattle.k_exit.specs.Exits.{ExitRow}
 use Rattle.k_exit.proofs.Last.{last_same, last_not}

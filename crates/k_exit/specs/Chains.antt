@@ -1,6 +1,6 @@
 -- How the items are linked. No public clause cites this file.
 use Rattle.std.specs.Prelude.{◌≡◌, ℕ, zero, suc, ◌-◌, ◌<◌, ◌≤◌, ◌==◌, ◌^◌, ◌&&◌, ◌⊎◌, not, Bool, true, false, List, length, take, slice_get, slice_set, slice_index_or, if◌then◌else◌, Option, Some, None}
-use Rattle.k_hash.specs.Hash.{bucket}
+use Rattle.k_lists.specs.Hash.{bucket}
 use Rattle.k_exit.specs.declared.chains.Item.{Item}
 use Rattle.k_exit.specs.declared.table.Wanted.{Wanted}
 use Rattle.k_exit.specs.declared.table.Wanted.TheVariants.{Any, Unmarked, Into}

@@ -1,9 +1,9 @@
 //! The hash chains on which the exit items are found.
 ghost use Rattle.std.specs.Prelude.{◌≡◌, ◌<◌, ◌≤◌, ◌^◌, ◌≢◌, IsTrue, IsFalse, Some, None, IfOk, IfSome, IfNone, length, map, replicate, ℕ, slice_set, vec_capacity};
-ghost use Rattle.k_hash.specs.Hash.{bucket};
+ghost use Rattle.k_lists.specs.Hash.{bucket};
 ghost use Rattle.k_exit.specs.Chains.{IsChained, IsLinked, IsLinkedAbove, IsNextAbove, HasNoneAbove, at, row_of, rows_without, with_next};
 
-use k_hash::chain_of;
+use k_lists::chain_of;
 use k_types::{Name, NoMemory};
 use std::alloc::Global;
 

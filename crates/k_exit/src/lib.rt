@@ -8,7 +8,7 @@
 //! and [`ExitTable::mark`] take constant time where the fixed hash spreads the names. A caller that
 //! takes targets until there is none passes each item once.
 //!
-//! The crate stands on `k_types` for names, want of memory and lemmas, and on `k_hash` for the chains.
+//! The crate stands on `k_types` for names, want of memory and lemmas, and on `k_lists` for the chains.
 #![tactic(auto)]
 
 mod chains;

@@ -5,11 +5,11 @@ ghost use Rattle.std.specs.List.Sorted.{IsPermutation};
 ghost use Rattle.k_types.specs.declared.names.Name.{Name};
 ghost use Rattle.k_types.specs.Names.{name_of};
 ghost use Rattle.k_exit.specs.Exits.{ExitRow, ExitList, AreDistinct, AreInOrder, IsTaken, has_target, target_marked, with_first_marked, with_target, with_marked, unmarked, unmarked_row, leads_into};
-ghost use Rattle.k_hash.specs.Hash.{bucket};
+ghost use Rattle.k_lists.specs.Hash.{bucket};
 ghost use Rattle.k_exit.specs.Chains.{row_of, is_wanted, marked_item, unmarked_item, IsLastWanted, HasNoneWanted, HasPassed};
 
 use crate::chains::{Item, empty_heads, find, find_in, link_in, relink, remove};
-use k_hash::chain_of;
+use k_lists::chain_of;
 use k_types::{Link, Name, NoMemory, Seg, Slot};
 use std::alloc::Global;
 use std::marker::Model;
@@ -50,7 +50,7 @@ impl Model for ExitTable {
 
     ghost use Rattle.std.specs.Prelude.{length, map, vec_capacity, ◌≡◌};
     ghost use Rattle.k_exit.specs.Exits.{AreDistinct};
-    ghost use Rattle.k_hash.specs.Hash.{bucket};
+    ghost use Rattle.k_lists.specs.Hash.{bucket};
     ghost use Rattle.k_exit.specs.Chains.{row_of, IsChained, HasPassed};
 
     ghost view = { λ t. record { items = map row_of t.items.items; room = length t.heads.items } };

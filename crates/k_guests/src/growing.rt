@@ -229,7 +229,7 @@ fn move_parts(
 }
 
 /// The parts of a host have these rooms from now on, larger ones. It answers how many of the last events can be read from then on, as
-/// `Journal::grow_kept` of `k_journal` says. It takes all memory first: for each table that of its new room beside the old one, which it
+/// `Journal::grow_kept` of `k_book` says. It takes all memory first: for each table that of its new room beside the old one, which it
 /// gives back, and for each segment that of the objects that can live beside those that could. What moves is passed once.
 ///
 /// # Errors

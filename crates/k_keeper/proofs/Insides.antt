@@ -3,7 +3,7 @@ use Rattle.std.proofs.Common.{◌≡◌, ◌∙◌, ap}
 use Rattle.k_types.specs.declared.event.Reply.{Reply}
 use Rattle.k_types.specs.declared.names.CellPhase.TheVariants.{Idle}
 use Rattle.k_types.specs.declared.op.Op.{Op}
-use Rattle.k_local.specs.Locals.{local_change}
+use Rattle.k_process.specs.Locals.{local_change}
 use Rattle.k_host.specs.k_guests.declared.guest.Guest.{Guest}
 use Rattle.k_host.specs.k_guests.Serving.{Basis}
 use Rattle.k_host.specs.Doing.{HasDoneInside}

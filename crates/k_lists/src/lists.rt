@@ -3,7 +3,7 @@ ghost use Rattle.std.specs.Prelude.{◌≡◌, ◌<◌, ◌≤◌, ◌+◌, ◌�
 ghost use Rattle.k_lists.specs.Lists.{AreApart, IsFree, members, is_in, without};
 ghost use Rattle.k_lists.specs.Linked.{with_head, with_next, with_prev};
 
-use k_memory::NoMemory;
+use k_types::NoMemory;
 use std::alloc::Global;
 use std::marker::Model;
 

@@ -12,7 +12,7 @@ use Rattle.k_laws.specs.Counts.{stores_in}
 use Rattle.k_locks.specs.k_process.k_commit.k_agree.Rooms.{exit_room}
 use Rattle.k_trace.specs.declared.trace.Trace.{Trace as TraceRead}
 use Rattle.k_trace.specs.Meaning.{meaning_of}
-use Rattle.k_bodies.proofs.Operations.{listed, own_operations}
+use Rattle.k_process.proofs.Operations.{listed, own_operations}
 use Rattle.k_still.specs.Opening.{AreSharedRooms}
 use Rattle.k_outcome.specs.Listed.{AreRoomsFor, most_exits}
 

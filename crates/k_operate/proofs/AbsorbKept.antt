@@ -25,7 +25,7 @@ use Rattle.k_process.specs.k_cell.Holdings.{HoldingsValue}
 use Rattle.k_process.specs.k_shared.SharedHeaps.{SharedRecord}
 use Rattle.k_shares.specs.Sharers.{is_orphan_by, lowest_orphan}
 use Rattle.k_collect.specs.Begun.{HasAppended}
-use Rattle.k_depart.specs.Absorbing.{CanAbsorb, HasAbsorbedHeap}
+use Rattle.k_own.specs.Absorbing.{CanAbsorb, HasAbsorbedHeap}
 use Rattle.k_process.specs.Standing.{BookStands}
 use Rattle.k_process.specs.Keeping.{BookKeeps, CanGive, KernelKeeps, SharedKeeps, is_absorbed_in}
 use Rattle.k_process.specs.Rooms.{shared_exit_room}

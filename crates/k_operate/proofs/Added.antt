@@ -12,7 +12,7 @@ use Rattle.k_types.specs.Agree.{CellValue}
 use Rattle.k_types.specs.FileOrder.{heap_begun}
 use Rattle.k_types.specs.Trace.{Trace}
 use Rattle.k_process.specs.k_book.Books.{BookRecord}
-use Rattle.k_process.specs.k_local.Locals.{local_answer}
+use Rattle.k_process.specs.Locals.{local_answer}
 use Rattle.k_process.specs.Stepped.{HasStepped}
 use Rattle.k_process.specs.declared.process.Process.{Process}
 use Rattle.k_operate.specs.Adding.{AddsEnd, AddsOne, AddsOperation, AreEnds, awaited, known_to}

@@ -30,7 +30,7 @@ use Rattle.k_agree.specs.Rooms.{AreFirst, IsInTurn, IsNext, event_room, exit_roo
 use Rattle.k_agree.proofs.AtTheEnd.{maxima_counted}
 use Rattle.k_agree.proofs.Meetings.{meeting}
 use Rattle.k_agree.proofs.WithinRooms.{fits_rooms, follows_after, room_after}
-use Rattle.k_bodies.specs.Bodies.{bodies_of}
+use Rattle.k_process.specs.Bodies.{bodies_of}
 use Rattle.k_process.specs.k_book.Books.{BookRecord, pin_room_of}
 use Rattle.k_process.specs.k_heap.Heaps.{HeapRecord}
 use Rattle.k_process.specs.Standing.{BookStands}

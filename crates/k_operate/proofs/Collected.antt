@@ -20,7 +20,7 @@ use Rattle.k_agree.specs.Agreement.{Agrees}
 use Rattle.k_agree.specs.Marking.{marked}
 use Rattle.k_agree.specs.Meeting.{Fits}
 use Rattle.k_agree.proofs.Meetings.{meeting}
-use Rattle.k_bodies.specs.Bodies.{bodies_of}
+use Rattle.k_process.specs.Bodies.{bodies_of}
 use Rattle.k_process.specs.k_book.Books.{BookRecord}
 use Rattle.k_process.specs.k_cell.Changes.{with_black_alone}
 use Rattle.k_process.specs.k_heap.Heaps.{HeapRecord, own_segment}

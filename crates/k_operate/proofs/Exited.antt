@@ -16,12 +16,12 @@ use Rattle.k_agree.specs.Rooms.{exit_room}
 use Rattle.k_agree.proofs.AtTheEnd.{book_sound}
 use Rattle.k_agree.proofs.Meetings.{meeting}
 use Rattle.k_agree.proofs.WithinRooms.{fits_rooms}
-use Rattle.k_bodies.specs.Bodies.{bodies_of}
+use Rattle.k_process.specs.Bodies.{bodies_of}
 use Rattle.k_process.specs.k_book.Books.{BookRecord}
 use Rattle.k_process.specs.k_cell.Holdings.{HoldingsValue}
 use Rattle.k_process.specs.k_heap.Heaps.{HeapRecord, own_segment}
 use Rattle.k_collect.specs.Begun.{HasAppended}
-use Rattle.k_depart.specs.Exiting.{CanExit, HasExited}
+use Rattle.k_own.specs.Exiting.{CanExit, HasExited}
 use Rattle.k_process.specs.Keeping.{BookKeeps, CanGive, HeapKeeps, KernelKeeps, operations_left}
 use Rattle.k_process.proofs.CanDo.{exits_many, heap_stands}
 use Rattle.k_process.specs.declared.process.Process.{Process}

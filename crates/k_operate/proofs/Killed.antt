@@ -14,11 +14,11 @@ use Rattle.k_types.specs.Distinct.{AreDistinctNames}
 use Rattle.k_types.proofs.Ancestors.{above_another}
 use Rattle.k_laws.specs.Counts.{stores_in}
 use Rattle.k_agree.specs.Rooms.{exit_room}
-use Rattle.k_bodies.specs.Bodies.{bodies_of}
+use Rattle.k_process.specs.Bodies.{bodies_of}
 use Rattle.k_process.specs.k_book.Books.{BookRecord}
 use Rattle.k_process.specs.k_cell.Holdings.{HoldingsValue}
 use Rattle.k_process.specs.k_heap.Heaps.{HeapRecord, has_ended_in, own_segment}
-use Rattle.k_depart.specs.Killing.{CanKill, HasKilled}
+use Rattle.k_own.specs.Killing.{CanKill, HasKilled}
 use Rattle.k_process.specs.Keeping.{BookKeeps, CanGive, HeapKeeps, operations_left}
 use Rattle.k_process.proofs.CanDo.{event_left, heap_stands}
 use Rattle.k_agree.specs.Shown.{idle_part}

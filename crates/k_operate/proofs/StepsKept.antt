@@ -15,7 +15,7 @@ use Rattle.k_entry.specs.Entries.{AreEntries}
 use Rattle.k_process.specs.k_cell.Holdings.{HoldingsValue}
 use Rattle.k_process.specs.k_heap.Heaps.{HeapRecord}
 use Rattle.k_process.specs.k_shared.SharedHeaps.{SharedRecord}
-use Rattle.k_process.specs.k_local.Locals.{after_local, local_answer}
+use Rattle.k_process.specs.Locals.{after_local, local_answer}
 use Rattle.k_process.specs.Beside.{HasSteppedWithKernel, HasSteppedWithShared}
 use Rattle.k_process.specs.Others.{shared_by}
 use Rattle.k_process.specs.Stepped.{HasStepped}

@@ -11,7 +11,7 @@ use Rattle.k_laws.specs.Counts.{stores_in}
 use Rattle.k_mark.specs.declared.sweeping.Swept.{Swept}
 use Rattle.k_agree.specs.Agreement.{Agrees}
 use Rattle.k_agree.specs.Rooms.{exit_room}
-use Rattle.k_bodies.specs.Bodies.{bodies_of}
+use Rattle.k_process.specs.Bodies.{bodies_of}
 use Rattle.k_process.specs.k_book.Books.{BookRecord}
 use Rattle.k_process.specs.k_cell.Holdings.{HoldingsValue}
 use Rattle.k_process.specs.k_heap.Heaps.{HeapRecord, own_segment}

@@ -8,10 +8,9 @@ pub use Rattle.k_own.specs.declared.reached.Reach
 pub use Rattle.k_own.specs.Reaching
 pub use Rattle.k_pair.specs.Operating
 pub use Rattle.k_own.specs.Own
-pub use Rattle.k_depart.specs.Killing as DepartKilling
-pub use Rattle.k_depart.specs.Absorbing as DepartAbsorbing
-pub use Rattle.k_depart.specs.Exiting
+pub use Rattle.k_own.specs.Killing as DepartKilling
+pub use Rattle.k_own.specs.Absorbing as DepartAbsorbing
+pub use Rattle.k_own.specs.Exiting
 pub use Rattle.k_collect.specs as k_collect
 pub use Rattle.k_process.specs.k_commit
-pub use Rattle.k_process.specs.k_local
 pub use Rattle.k_process.specs as k_process

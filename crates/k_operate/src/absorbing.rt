@@ -9,7 +9,7 @@ ghost use Rattle.k_types.specs.declared.op.Op.TheVariants.{KCollect};
 use crate::collecting::{
     begin_kernel_collection, end_kernel_collection, mark_kernel_collection, sweep_kernel_collection,
 };
-use k_depart::absorb;
+use k_own::absorb;
 use k_process::{Book, KernelCell, Process, SharedCell};
 
 /// The kernel absorbs the shared heap, the orphan of the lowest number. The cost is in proportion to the exit items of the heap

@@ -6,7 +6,7 @@ ghost use Rattle.k_process.specs.Worlds.{WorldValue};
 ghost use Rattle.k_types.specs.declared.op.Op.TheVariants.{Exit};
 
 use crate::known::{know_exits, know_kernel_exits};
-use k_depart::exit;
+use k_own::exit;
 use k_process::{Book, KernelCell, Process};
 
 /// Does the operation `exit`: the process ends, and the objects of its heap are the kernel's. The cost is in proportion to the exit

@@ -5,8 +5,7 @@ ghost use Rattle.k_process.specs.Worlds.{WorldValue};
 
 use crate::known::{know_exits, know_kernel_exits};
 use crate::stepping::{do_alone, publish_all};
-use k_depart::kill;
-use k_own::{Reach, reach};
+use k_own::{Reach, kill, reach};
 use k_process::{Book, KernelCell, Process};
 use k_types::Op;
 

@@ -26,8 +26,7 @@ pub use k_collect::{
     end_kernel_listing, mark_heap, mark_kernel, meet_heap, meet_kernel, meet_shared, settle_heap,
     settle_kernel,
 };
-pub use k_depart::{absorb, exit, kill};
-pub use k_own::{Reach, publish, reach, step_own};
+pub use k_own::{Reach, absorb, exit, kill, publish, reach, step_own};
 pub use k_pair::{step_kernel, step_shared};
 pub use k_process::{Heaps, Process, local, next};
 pub use killing::do_kill;

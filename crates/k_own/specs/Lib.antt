@@ -1,6 +1,14 @@
 pub mod Own
 pub mod Reaching
 pub mod Elsewhere
+pub mod Exits
+pub mod Registers
+pub mod Charges
+pub mod Segments
+pub mod Ending
+pub mod Absorbing
+pub mod Exiting
+pub mod Killing
 pub use Rattle.k_commit.specs.Met
 pub use Rattle.k_commit.specs.Standing
 pub use Rattle.k_commit.specs.k_heap.Heaps

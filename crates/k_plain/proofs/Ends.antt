@@ -1,7 +1,7 @@
 -- The end of a collection is possible with the numbers that it has, and no others.
 use Rattle.std.proofs.Common.{◌≡◌, ◌↔◌, ◌∙◌, ℕ, Bool, ap, sym, subst, Result, Ok, Err}
 use Rattle.std.specs.Prelude.{IfOk, IsTrue}
-use Rattle.k_types.specs.k_memory.declared.no_memory.NoMemory.{NoMemory}
+use Rattle.k_types.specs.declared.no_memory.NoMemory.{NoMemory}
 use Rattle.k_types.specs.declared.names.Heap.{Heap}
 use Rattle.k_types.specs.declared.event.Event.{Event}
 use Rattle.k_types.specs.declared.event.Event.TheVariants.{Ended}

@@ -1,7 +1,7 @@
 -- A machine that has taken a possible step is sound again.
 use Rattle.std.proofs.Common.{◌≡◌, ◌↔◌, Bool, true, false, refl, ap, subst, sym, ◌∙◌, Result, Ok, Err}
 use Rattle.std.specs.Prelude.{IfOk, IsFalse, IsTrue, OnErr, OnOk}
-use Rattle.k_types.specs.k_memory.declared.no_memory.NoMemory.{NoMemory}
+use Rattle.k_types.specs.declared.no_memory.NoMemory.{NoMemory}
 use Rattle.k_types.specs.declared.names.Pid.{Pid}
 use Rattle.k_types.specs.declared.op.Op.{Op}
 use Rattle.k_types.specs.declared.event.Reply.{Reply}

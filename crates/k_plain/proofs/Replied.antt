@@ -1,7 +1,7 @@
 -- What the reply to an operation says of its effect.
 use Rattle.std.proofs.Common.{◌≡◌, ℕ, refl, sym, ◌∙◌, Option, Some, None, Result, Ok, Err}
 use Rattle.std.specs.Prelude.{OnOk}
-use Rattle.k_types.specs.k_memory.declared.no_memory.NoMemory.{NoMemory}
+use Rattle.k_types.specs.declared.no_memory.NoMemory.{NoMemory}
 use Rattle.k_types.specs.declared.op.Op.{Op}
 use Rattle.k_types.specs.declared.event.Fault.{Fault}
 use Rattle.k_types.specs.declared.event.Reply.{Reply}

@@ -37,7 +37,7 @@ use Rattle.k_commit.proofs.WithinRooms.{next_by_done}
 use Rattle.k_entry.specs.Entries.{AreEntries, objects}
 use Rattle.k_entry.proofs.WholeWalks.{all_distinct, few_items}
 use Rattle.k_space.specs.Objects.{BodyValue}
-use Rattle.k_bodies.specs.Bodies.{bodies_of}
+use Rattle.k_process.specs.Bodies.{bodies_of}
 use Rattle.k_commit.specs.Books.{BookRecord, book_entries}
 use Rattle.k_commit.specs.Holdings.{HasObjectRoom, HoldingsValue}
 use Rattle.k_commit.specs.Heaps.{HeapRecord, has_ended_in, holdings_of as heap_holdings, own_segment}

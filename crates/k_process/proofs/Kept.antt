@@ -22,7 +22,7 @@ use Rattle.k_laws.proofs.Owning.{stays_kernel}
 use Rattle.k_commit.specs.k_agree.Rooms.{IsNext, event_room, exit_room}
 use Rattle.k_commit.proofs.AtTheEnd.{maxima_counted}
 use Rattle.k_commit.proofs.WithinRooms.{follows_after}
-use Rattle.k_bodies.specs.Bodies.{bodies_of}
+use Rattle.k_process.specs.Bodies.{bodies_of}
 use Rattle.k_commit.specs.Books.{BookRecord, pin_room_of}
 use Rattle.k_commit.specs.Holdings.{HoldingsValue}
 use Rattle.k_commit.specs.Heaps.{HeapRecord, has_ended_in}

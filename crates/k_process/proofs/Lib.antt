@@ -1,3 +1,7 @@
+pub mod Told
+pub mod Done
+pub mod Fields
+pub mod Operations
 pub mod Lists
 pub mod RoomLeft
 pub mod LocalKept

@@ -38,8 +38,8 @@ use Rattle.k_commit.specs.Shown.{ShowsIdle}
 use Rattle.k_commit.proofs.Idle.{not_open, part_shown, shows_part}
 use Rattle.k_tie.specs.Values.{NoteValue}
 use Rattle.k_commit.specs.Heaps.{has_ended_in}
-use Rattle.k_local.specs.Locals.{IsMachines, ShowOwn, after_local, local_answer, local_change, written_through}
-use Rattle.k_local.proofs.Told.{local_told, machines}
+use Rattle.k_process.specs.Locals.{IsMachines, ShowOwn, after_local, local_answer, local_change, written_through}
+use Rattle.k_process.proofs.Told.{local_told, machines}
 
 pub written_idle : (b : Option Name) (i : ℕ) (content : Content) (v : CellValue) → (written_through b i content v).collection ≡ v.collection
 written_idle None i content v = refl

@@ -15,7 +15,7 @@ use Rattle.k_tie.specs.Values.{blank_note, empty_journal}
 use Rattle.k_commit.specs.k_agree.Rooms.{event_room, exit_room, serial_room}
 use Rattle.k_commit.proofs.Openings.{opened_cell}
 use Rattle.k_space.specs.Objects.{BodyValue}
-use Rattle.k_bodies.specs.Bodies.{bodies_of}
+use Rattle.k_process.specs.Bodies.{bodies_of}
 use Rattle.k_commit.specs.Books.{opened}
 use Rattle.k_commit.proofs.Telling.{opened_agrees, opened_of}
 use Rattle.k_commit.specs.CellRooms.{CellRooms}

@@ -35,10 +35,10 @@ use Rattle.k_commit.specs.k_agree.Agreement.{Agrees}
 use Rattle.k_commit.specs.k_agree.Meeting.{Fits}
 use Rattle.k_commit.specs.k_agree.Rooms.{AreFirst, FitsTheRooms}
 use Rattle.k_commit.proofs.WithinRooms.{met_follows, tails_have_room}
-use Rattle.k_bodies.specs.Bodies.{bodies_of}
+use Rattle.k_process.specs.Bodies.{bodies_of}
 use Rattle.k_commit.specs.Books.{BookRecord}
 use Rattle.k_commit.specs.Heaps.{HeapRecord, has_ended_in}
-use Rattle.k_local.specs.Locals.{HasRegisters, after_local, local_answer}
+use Rattle.k_process.specs.Locals.{HasRegisters, after_local, local_answer}
 use Rattle.k_process.specs.Keeping.{BookKeeps, HeapKeeps, operations_left}
 use Rattle.k_process.proofs.CanDo.{done_shown, next_in_range, next_known}
 use Rattle.k_process.proofs.Kept.{drop_more}

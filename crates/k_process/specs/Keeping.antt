@@ -13,7 +13,7 @@ use Rattle.k_laws.specs.PartUpdates.{done_in}
 use Rattle.k_laws.specs.Counts.{stores_in}
 use Rattle.k_commit.specs.k_agree.Agreement.{Agrees}
 use Rattle.k_commit.specs.k_agree.Rooms.{event_room, exit_room, serial_room}
-use Rattle.k_bodies.specs.Bodies.{bodies_of}
+use Rattle.k_process.specs.Bodies.{bodies_of}
 use Rattle.k_commit.specs.Books.{BookRecord}
 use Rattle.k_commit.specs.Holdings.{HoldingsValue}
 use Rattle.k_commit.specs.Heaps.{HeapRecord, has_ended_in, own_segment}

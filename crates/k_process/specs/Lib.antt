@@ -1,3 +1,5 @@
+pub mod Locals
+pub mod Bodies
 pub mod Rooms
 pub mod Keeping
 pub mod Worlds
@@ -8,7 +10,6 @@ pub use Rattle.k_commit.specs.k_book
 pub use Rattle.k_commit.specs.k_cell
 pub use Rattle.k_commit.specs.k_heap
 pub use Rattle.k_commit.specs.k_shared
-pub use Rattle.k_local.specs as k_local
 pub use Rattle.k_commit.specs.Beside
 pub use Rattle.k_commit.specs.Others
 pub use Rattle.k_commit.specs.Stepped

@@ -8,7 +8,7 @@ ghost use Rattle.k_commit.specs.Beside.{HasSteppedWithKernel, HasSteppedWithShar
 ghost use Rattle.k_commit.specs.Stepped.{HasStepped};
 ghost use Rattle.k_laws.specs.PartUpdates.{done_in};
 ghost use Rattle.k_commit.specs.Heaps.{HeapRecord, has_ended_in};
-ghost use Rattle.k_local.specs.Locals.{HasRegisters, after_local, local_answer};
+ghost use Rattle.k_process.specs.Locals.{HasRegisters, after_local, local_answer};
 ghost use Rattle.k_process.specs.Keeping.{BookKeeps, HeapKeeps, KernelKeeps, SharedKeeps, operations_left};
 ghost use Rattle.k_commit.specs.SharedHeaps.{SharedRecord};
 ghost use Rattle.k_types.specs.Following.{FollowsTrace};

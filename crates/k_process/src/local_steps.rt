@@ -2,7 +2,7 @@
 ghost use Rattle.std.specs.Prelude.{IsFalse, IsTrue, Some, ◌++◌, ◌≡◌};
 ghost use Rattle.k_commit.specs.k_agree.Agreement.{Agrees};
 ghost use Rattle.k_commit.specs.Heaps.{has_ended_in};
-ghost use Rattle.k_local.specs.Locals.{after_local, local_answer};
+ghost use Rattle.k_process.specs.Locals.{after_local, local_answer};
 ghost use Rattle.k_tie.specs.Values.{NoteValue};
 ghost use Rattle.k_types.specs.Agree.{CellValue};
 ghost use Rattle.k_types.specs.Steps.{IsPossible, in_range, state_after};

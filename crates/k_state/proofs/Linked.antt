@@ -9,7 +9,7 @@ use Rattle.k_types.specs.declared.names.Name.{Name}
 use Rattle.k_types.specs.Names.{heap_eq, name_eq}
 use Rattle.k_types.specs.State.{ExitItem, has_exit}
 use Rattle.k_laws.proofs.NameTests.{name_eq-true}
-use Rattle.k_hash.specs.Hash.{bucket}
+use Rattle.k_lists.specs.Hash.{bucket}
 use Rattle.k_state.specs.Links.{AreLinked, IsExitAt, IsUpTo, Links}
 use Rattle.k_state.specs.Marks.{marked}
 use Rattle.k_state.proofs.Marked.{length_marked}

@@ -1,6 +1,6 @@
 -- How exit items whose targets are of one chain lead to one another.
 use Rattle.std.specs.Prelude.{◌≡◌, ◌≢◌, ◌&&◌, ℕ, ◌-◌, ◌<◌, ◌≤◌, ◌^◌, IsTrue, IsFalse, List, length, slice_index_or}
-use Rattle.k_hash.specs.Hash.{bucket}
+use Rattle.k_lists.specs.Hash.{bucket}
 use Rattle.k_types.specs.declared.names.Heap.{Heap}
 use Rattle.k_types.specs.declared.names.Name.{Name}
 use Rattle.k_types.specs.Names.{heap_eq, name_eq}

@@ -4,7 +4,7 @@ ghost use Rattle.k_state.specs.Links.{AreFound, AreLinked, HaveRoom, IsExitAt};
 ghost use Rattle.k_types.specs.State.{has_exit};
 
 use crate::items::ExitItem;
-use k_hash::chain_of;
+use k_lists::chain_of;
 use k_types::{Heap, Name, NoMemory};
 use std::alloc::Global;
 use std::marker::Model;

@@ -16,6 +16,8 @@ pub use k_collect::{
     end_kernel_listing, end_swept_heap, end_swept_kernel, mark_heap, mark_kernel, meet_heap,
     meet_kernel, meet_shared, settle_heap, settle_kernel, sweep_heap, sweep_kernel,
 };
-pub use k_depart::{absorb, exit, kill};
-pub use k_own::{Reach, ends_are_told_once, publish, reach, reached_cells_are_touched, step_own};
+pub use k_own::{
+    Reach, absorb, ends_are_told_once, exit, kill, publish, reach, reached_cells_are_touched,
+    step_own,
+};
 pub use k_pair::{step_kernel, step_shared};

@@ -11,7 +11,7 @@ use Rattle.k_types.specs.declared.op.Op.{Op}
 use Rattle.k_types.specs.declared.setup.Setup.{Setup}
 use Rattle.k_types.specs.Trace.{Trace, operations_of, process_count, segment_count, segment_of}
 use Rattle.k_agree.specs.Rooms.{serial_room}
-use Rattle.k_bodies.specs.Bodies.{bodies_of}
+use Rattle.k_process.specs.Bodies.{bodies_of}
 use Rattle.k_laws.specs.Counts.{stores_in}
 use Rattle.k_cell.specs.Holdings.{HoldingsValue}
 use Rattle.k_heap.specs.declared.heap.CellRooms.{CellRooms}

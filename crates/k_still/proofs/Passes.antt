@@ -8,7 +8,7 @@ use Rattle.k_types.specs.Totals.{total}
 use Rattle.k_types.specs.Trace.{operations_of, process_count}
 use Rattle.k_agree.specs.Rooms.{event_room, exit_room}
 use Rattle.k_laws.specs.Counts.{stores_in}
-use Rattle.k_bodies.proofs.Operations.{listed, own_operations}
+use Rattle.k_process.proofs.Operations.{listed, own_operations}
 use Rattle.k_trace.specs.declared.trace.Trace.{Trace}
 use Rattle.k_trace.specs.Meaning.{meaning_of}
 use Rattle.k_trace.specs.Rules.{IsTrace}

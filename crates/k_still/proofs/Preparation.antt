@@ -11,8 +11,8 @@ use Rattle.k_types.specs.Trace.{Trace, operations_of, process_count, segment_cou
 use Rattle.k_types.specs.TraceRules.{KeepsRules}
 use Rattle.k_agree.specs.Rooms.{serial_room}
 use Rattle.k_types.proofs.Lists.{numbers_length}
-use Rattle.k_bodies.specs.Bodies.{bodies_of}
-use Rattle.k_bodies.proofs.Operations.{own_operations}
+use Rattle.k_process.specs.Bodies.{bodies_of}
+use Rattle.k_process.proofs.Operations.{own_operations}
 use Rattle.k_book.specs.Books.{BookRecord}
 use Rattle.k_process.specs.Keeping.{BookKeeps, SharedKeeps}
 use Rattle.k_shared.specs.SharedHeaps.{SharedRecord}

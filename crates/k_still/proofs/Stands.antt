@@ -7,7 +7,7 @@ use Rattle.k_types.specs.declared.setup.Setup.{Setup}
 use Rattle.k_types.specs.Trace.{Trace, operations_of, process_count, segment_of, trace_of}
 use Rattle.k_types.specs.TraceRules.{KeepsRules}
 use Rattle.k_agree.specs.Rooms.{event_room, exit_room, serial_room}
-use Rattle.k_bodies.specs.Bodies.{bodies_of}
+use Rattle.k_process.specs.Bodies.{bodies_of}
 use Rattle.k_laws.specs.Counts.{stores_in}
 use Rattle.k_book.specs.Books.{opened}
 use Rattle.k_heap.specs.declared.heap.CellRooms.{CellRooms}

@@ -15,7 +15,7 @@ use Rattle.k_types.specs.Trace.{Trace, operations_of, process_count, segment_cou
 use Rattle.k_types.specs.TraceRules.{KeepsRules}
 use Rattle.k_agree.specs.Rooms.{event_room, exit_room, serial_room}
 use Rattle.k_space.specs.Objects.{BodyValue}
-use Rattle.k_bodies.specs.Bodies.{bodies_of}
+use Rattle.k_process.specs.Bodies.{bodies_of}
 use Rattle.k_tie.specs.Values.{JournalValue, NoteValue, blank_note, empty_journal}
 use Rattle.k_book.specs.Books.{BookRecord}
 use Rattle.k_cell.specs.Holdings.{HoldingsValue}

@@ -5,7 +5,7 @@ ghost use Rattle.k_trace.specs.Rules.{IsTrace};
 ghost use Rattle.k_still.specs.Opening.{IsPrepared};
 
 use crate::rooms::{all_events, all_stores, serial_rooms, shared_rooms};
-use k_bodies::bodies;
+use k_process::bodies;
 use k_space::Body;
 use k_trace::Trace;
 use k_types::NoMemory;

@@ -1,5 +1,5 @@
 //! Calls of both tables, one after another.
-use k_entered::EnteredTables;
+use k_book::EnteredTables;
 use k_types::{Heap, Link, Name, Pid, Seg, Serial, Slot};
 use std::test::Fail;
 

@@ -1,5 +1,5 @@
 //! Bodies of a trace.
-use k_bodies::bodies;
+use k_process::bodies;
 use k_reader::read_trace;
 use k_types::TypeId;
 use std::test::Fail;

@@ -1,6 +1,6 @@
 -- What a call that can run out of memory answers.
 use Rattle.std.specs.Prelude.{◌≡◌, ℕ, ◌≤◌, List, length, None, Result, Ok, Err}
-use Rattle.k_io.specs.k_memory.declared.no_memory.NoMemory.{NoMemory}
+use Rattle.k_io.specs.k_types.declared.no_memory.NoMemory.{NoMemory}
 use Rattle.k_limits.specs.k_types.declared.names.Field.{Field}
 use Rattle.k_limits.specs.k_types.declared.setup.LimitRow.{LimitRow}
 use Rattle.k_limits.specs.k_types.Types.{HaveFewFields}

@@ -4,7 +4,7 @@ ghost use Rattle.k_types.specs.Bounds.{most_fields};
 ghost use Rattle.k_types.specs.Types.{HaveFewFields, object_size, type_row};
 
 use crate::names::{Field, TypeId};
-use k_memory::NoMemory;
+use crate::no_memory::NoMemory;
 use std::alloc::Global;
 use std::marker::Model;
 

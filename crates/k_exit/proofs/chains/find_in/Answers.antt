@@ -1,5 +1,5 @@
 use Rattle.std.proofs.Common.{◌≡◌, ◌-◌, ◌<◌, ℕ, suc, sym, ap, subst, ◌∙◌, refl, arith, length}
-use Rattle.k_hash.specs.Hash.{bucket}
+use Rattle.k_lists.specs.Hash.{bucket}
 use Rattle.k_exit.specs.Chains.{at, last, in_chain}
 use Rattle.k_exit.proofs.Last.{last_within}
 use Rattle.k_exit.proofs.Links.{IsWalk, walk_begins, walk_goes, differs_of}

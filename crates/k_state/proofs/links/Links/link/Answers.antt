@@ -1,6 +1,6 @@
 use Rattle.std.proofs.Common.{◌≡◌, ◌+◌, ◌<◌, refl, ap, subst, sym, ◌∙◌, length, length-set, get_or, set, arith}
 use Rattle.std.proofs.lemmas.List.{get_or_read}
-use Rattle.k_hash.specs.Hash.{bucket}
+use Rattle.k_lists.specs.Hash.{bucket}
 use Rattle.k_types.specs.State.{ExitItem}
 use Rattle.k_state.specs.Links.{AreLinked, HaveRoom, Links}
 use Rattle.k_state.proofs.Linked.{linked_next}

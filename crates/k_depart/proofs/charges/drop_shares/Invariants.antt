@@ -1,5 +1,0 @@
-use Rattle.k_depart.proofs.Dropped.{IsDropping}
-use Rattle.k_depart.proofs.charges.drop_shares.Given as goal
-
-abbrev pub invariant-loop-s : goal.invariant-loop-s
-invariant-loop-s l = IsDropping l.pid.0 l.fn.book l.book l.s l.bytes

@@ -1,2 +1,0 @@
-pub mod Pinned
-pub use Rattle.k_entry.proofs.WholeWalks

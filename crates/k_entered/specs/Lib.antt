@@ -1,2 +1,0 @@
-pub mod Entered
-pub use Rattle.k_entry.specs as k_entry

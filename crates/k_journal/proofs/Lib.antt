@@ -1,3 +1,0 @@
-pub mod Lasting
-pub mod Counted
-pub mod Appended
