@@ -1,15 +1,14 @@
-"""Tests of how a build is proved: the time that is left of it, how many proofs run at once, and the calls of rt beside each other."""
-import contextlib
-import io
+"""Tests of how a build is proved: the time that is left of it, how many proofs run at once, and how they share the processors."""
 import os
-import re
-import shutil
+import subprocess
+import sys
 import tempfile
+import time
 import unittest
 from unittest import mock
 
-from launcher import progress, proving, sources
-from testing.launched import TOP, text_of
+from launcher import lanes, progress, proving, sources
+from testing.launched import TOP
 
 
 class Time(unittest.TestCase):
@@ -49,134 +48,101 @@ class Time(unittest.TestCase):
 
 
 class Processors(unittest.TestCase):
-    """How many proofs run at once, on four processors."""
+    """How the gate is called on four processors."""
 
-    def environment(self, gigabytes, **said):
+    def call(self, gigabytes, **said):
         with mock.patch.dict(os.environ, said, clear=True), mock.patch("os.sched_getaffinity", return_value={0, 1, 2, 3}):
             with mock.patch("launcher.proving.free_memory", return_value=gigabytes * 1_000_000):
-                return proving.environment()
+                return proving.call_of("top"), proving.folder_of_files()
 
-    def test_with_ample_memory_rt_chooses(self):
-        self.assertEqual(self.environment(20, HOME="here"), {"HOME": "here"})
-        self.assertEqual(self.environment(20, RT_JOBS="many"), {})
+    def test_with_ample_memory_proofs_share_the_processors(self):
+        for said in ({"HOME": "here"}, {"RT_JOBS": "many"}):
+            (words, env), files = self.call(20, **said)
+            self.assertEqual((words[1:], env), (["top/scripts/launcher/lanes.py", "top/docs/gate-times"], {}))
+            self.assertIn(files, (proving.IN_MEMORY, None))
 
     def test_with_less_memory_each_proof_has_one_processor(self):
         for gigabytes, jobs in [(19, "4"), (8, "3"), (1, "1")]:
-            self.assertEqual(self.environment(gigabytes), {"RT_JOBS": jobs})
+            self.assertEqual(self.call(gigabytes), ((["rt", "ci"], {"RT_JOBS": jobs}), None))
 
     def test_a_number_that_is_given_is_kept(self):
-        self.assertEqual(self.environment(64, RT_JOBS="2"), {"RT_JOBS": "2"})
+        self.assertEqual(self.call(64, RT_JOBS="2"), ((["rt", "ci"], {"RT_JOBS": "2"}), None))
 
 
-# rt as the calls beside each other use it: each crate is proved by the first call that comes to it, and the others take it, unless nothing is shared.
-SHARING_KIT = """#!/bin/sh
-# What this call has begun when it is ended another one proves.
-trap '[ "$(readlink "$KEPT/$name.begun")" = $$ ] && rm "$KEPT/$name.begun"; exit 1' TERM
-shift
-echo "$*${RT_JOBS:+ with $RT_JOBS behind by $(($(nice) - NICE))}" >> "$CALLS"
-wanted=" $* "
-for it; do wanted="$wanted$(printenv "BELOW_$it") "; done
-for name in $NEED; do
-    case "$#$wanted" in 0*|*" $name "*) ;; *) continue ;; esac
-    mine=
-    until [ -e "$KEPT/$name" ] || [ "$mine" ] || [ "$SHARED" = no ]; do
-        if ln -s $$ "$KEPT/$name.begun" 2>/dev/null; then mine=yes; else sleep 0.05; fi
-    done
-    if [ "$mine" ] || [ "$SHARED" = no ]; then
-        sleep 0.1
-        [ "$name" = "$FAILS" ] && { echo "rt: $name NOT PROVED"; exit 1; }
-        echo "rt: $name proved"
-        : > "$KEPT/$name"
-    else
-        sleep 0.1
-        echo "rt: $name is kept: an earlier run proved it"
-    fi
-done
+# A kit's gate that has a crate, its tests and one above it proved, and says with how many processors; with a word it has an edit tried too.
+GATE = """#!/usr/bin/env python3
+import os, sys
+
+def in_lanes(tasks):
+    return {key: print(*key, "its own way") for key in tasks}
+
+def main(words):
+    call = lambda given, jobs: jobs
+    tasks = {("low", "proof"): ([], 1, 1, call), ("low", "tests"): ([], 0, 1, call), ("high", "proof"): ([("low", "proof")], 1, 1, call)}
+    if "EDITS" in os.environ:
+        tasks["low", "edits", 0] = [], 1, 1, call
+    print(*words, *in_lanes(tasks).items())
+    return 3
 """
 
 
-class Beside(unittest.TestCase):
-    """Several calls of rt at once."""
+class Sharing(unittest.TestCase):
+    """How proofs share four processors, by a made-up table of times."""
 
-    BELOW = {"k_io": [], "k_space": [], "k_cell": ["k_space"], "k_operate": ["k_cell"], "k_worker": ["k_operate"], "k_run": ["k_io", "k_worker"]}
-    BELOW["k_status"] = ["k_io", "k_space"]
-    LISTS = {
-        "kaffe": {**BELOW, "k_answers": ["k_status"], "kaffe": ["k_run", "k_answers"]},
-        "kaffe_run": {**BELOW, "kaffe_run": ["k_run", "k_status"]},
-    }
-    # The calls beside those for the chain and for the program.
-    MORE = {"kaffe": ["k_answers with 2 behind by 2", "k_io", "k_run"], "kaffe_run": ["k_io"]}
+    TIMES = {"low": 10.0, "long": 30.0, "short": 5.0, "side": 8.0, "top": 20.0}
+    BELOW = {"low": [], "side": [], "long": ["low"], "short": ["low"], "top": ["long", "short"]}
 
     def setUp(self):
-        self.room = tempfile.mkdtemp(prefix="test-launcher-")
-        self.addCleanup(shutil.rmtree, self.room)
-        for folder in ("kept", "copy", "bin"):
-            os.makedirs(f"{self.room}/{folder}")
-        with open(f"{self.room}/bin/rt", "w", encoding="utf-8") as file:
-            file.write(SHARING_KIT)
-        os.chmod(file.name, 0o755)
+        self.began, self.jobs = [], {}
 
-    def forget(self):
-        """Forgets what was proved, and the calls."""
-        shutil.rmtree(f"{self.room}/kept")
-        os.makedirs(f"{self.room}/kept")
-        with contextlib.suppress(FileNotFoundError):
-            os.remove(f"{self.room}/calls")
+    def tasks(self, slow):
+        """The tasks of a gate for the made-up crates. Each proof notes when it begins and with how many processors, and the slow ones take a while."""
+        def proof(name, given, jobs):
+            self.assertLessEqual({(it, "proof") for it in self.BELOW[name]}, {*given})
+            self.began.append(name)
+            self.jobs[name] = jobs
+            time.sleep(0.5 if name in slow else 0)
+            return name
 
-    def built(self, program="kaffe", **more):
-        """Whether the program is built, the crates that were told of in order, the calls, and the build."""
-        lists = self.LISTS[program]
-        env = {"PATH": f"{self.room}/bin:/usr/bin:/bin", "CALLS": f"{self.room}/calls", "KEPT": f"{self.room}/kept"}
-        env.update({f"BELOW_{name}": " ".join(sources.with_below(lists, name)) for name in lists})
-        env.update({"NEED": " ".join(lists), "NICE": str(os.nice(0)), "FAILS": "none", "SHARED": "yes", **more})
-        build = proving.Build(f"{self.room}/copy", progress.Progress(lists, lists, {}, 4))
-        said = io.StringIO()
-        with mock.patch.dict(os.environ, env, clear=True), mock.patch("os.sched_getaffinity", return_value={0, 1, 2, 3}), contextlib.redirect_stderr(said):
-            with mock.patch("launcher.proving.free_memory", return_value=20_000_000):
-                is_built = build.whole([*lists], lists, env)
-        return is_built, re.findall(r"\((\w+)\)$", said.getvalue(), re.M), sorted(text_of(f"{self.room}/calls").split("\n")[:-1]), build
+        found = {}
+        for name, below in self.BELOW.items():
+            waits = [(it, "proof") for it in below]
+            found[name, "proof"] = (waits, 9, 1, lambda given, jobs, name=name: proof(name, given, jobs))
+            found[name, "tests"] = (waits, 0, 1, lambda given, jobs: True)
+        return found
 
-    def test_each_crate_is_told_of_once(self):
-        for program, lists in self.LISTS.items():
-            with self.subTest(program):
-                self.forget()
-                is_built, told, calls, _ = self.built(program)
-                self.assertEqual((is_built, sorted(told), told[-1]), (True, sorted(lists), program))
-                self.assertEqual(calls, sorted(["", *proving.CHAIN, *self.MORE[program]]))
+    def test_the_longest_chain_comes_first_and_has_two_processors(self):
+        tasks = self.tasks(slow=("side",))
+        given = lanes.Lanes(self.TIMES, 4).share(tasks)
+        self.assertEqual(given, {(name, kind): name if kind == "proof" else True for name, kind in tasks})
+        self.assertEqual(self.began, ["low", "side", "long", "short", "top"])
+        self.assertEqual(self.jobs, {"low": 2, "side": 2, "long": 2, "short": 2, "top": 2})
 
-    def test_the_calls_are_for_crates_that_are_there(self):
-        for program in self.LISTS:
-            need = {*sources.crates_below(TOP, program)[0]}
-            self.assertEqual({*proving.CHAIN, proving.RUN} - need, set())
-            self.assertEqual(proving.ANSWERS in need, program == "kaffe")
+    def test_the_first_of_the_chain_has_two_also_where_three_others_could_begin(self):
+        own = lanes.Lanes({}, 4)
+        self.assertEqual([own.jobs_of(4, is_first, 0) for is_first in (True, False)], [2, 1])
+        self.assertEqual([own.jobs_of(1, False, used) for used in (0, 1, 3, 4, 5)], [4, 3, 1, 0, 0])
+        self.assertEqual([own.jobs_of(1, True, used) for used in (3, 4)], [2, 0])
 
-    def test_the_whole_program_after_the_smaller_one_takes_what_is_kept(self):
-        self.built("kaffe_run")
-        is_built, told, _, build = self.built()
-        self.assertEqual((is_built, told, build.is_shared), (True, ["k_answers", "kaffe"], False))
+    def gate(self, text, **env):
+        with tempfile.TemporaryDirectory(prefix="test-launcher-") as room:
+            with open(f"{room}/rt", "w", encoding="utf-8") as file:
+                file.write(text)
+            os.chmod(file.name, 0o755)
+            words = [sys.executable, f"{TOP}/scripts/launcher/lanes.py", f"{TOP}/docs/gate-times"]
+            ran = subprocess.run(words, env={"PATH": f"{room}:/usr/bin:/bin", **env}, stdout=subprocess.PIPE, text=True, check=False)
+            return ran.returncode, ran.stdout
 
-    def test_what_is_kept_from_earlier_is_taken_by_one_call(self):
-        self.built()
-        os.remove(f"{self.room}/kept/kaffe")
-        os.remove(f"{self.room}/kept/kaffe.begun")
-        is_built, told, _, build = self.built()
-        self.assertEqual((is_built, told, build.is_shared), (True, ["kaffe"], False))
+    def test_the_kits_gate_shares_so(self):
+        status, said = self.gate(GATE)
+        jobs = max(lanes.OF_CHAIN, min(lanes.AT_MOST, len(os.sched_getaffinity(0))))
+        self.assertEqual((status, said[:3]), (3, "ci "))
+        for key, given in [("low', 'proof", jobs), ("low', 'tests", 1), ("high', 'proof", jobs)]:
+            self.assertIn(f"(('{key}'), {given})", said)
 
-    def test_where_nothing_is_shared_one_call_does_all(self):
-        is_built, told, _, build = self.built(SHARED="no")
-        self.assertEqual((is_built, told[-1], build.is_shared), (True, "kaffe", False))
+    def test_a_gate_with_other_tasks_goes_its_own_way(self):
+        self.assertIn("low edits 0 its own way\n", self.gate(GATE, EDITS="yes")[1])
 
-    def test_a_crate_that_is_not_proved_ends_all(self):
-        for name in ("k_space", "k_answers", "kaffe"):
-            with self.subTest(name):
-                self.forget()
-                is_built, told, _, build = self.built(FAILS=name)
-                self.assertEqual((is_built, build.failed), (False, name))
-                self.assertNotIn("kaffe", told)
-
-    def test_with_a_number_of_jobs_there_is_one_call(self):
-        self.assertEqual(self.built(RT_JOBS="2")[2], [" with 2 behind by 0"])
-
-    def test_one_call_goes_on_where_crates_are_kept(self):
-        self.built("kaffe_run", RT_JOBS="2")
-        self.assertEqual(self.built(RT_JOBS="2")[:2], (True, ["k_answers", "kaffe"]))
+    def test_another_kit_goes_its_own_way(self):
+        self.assertEqual(self.gate("#!/bin/sh\necho it is $*\n"), (0, "it is ci\n"))
+        self.assertEqual(self.gate(GATE.replace("in_lanes", "side_by_side"))[0], 0)
