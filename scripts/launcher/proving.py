@@ -51,20 +51,21 @@ def shares():
     return not wanted() and free_memory() >= AMPLE_MEMORY_EACH_KB * len(os.sched_getaffinity(0))
 
 
-def call_of(top):
-    """The words that begin the gate, and what its environment has besides. Where proofs do not share the processors each has one."""
-    if shares():
+def call_of(top, many, is_shared):
+    """The words that begin the gate with so many proofs at once, and what its environment has besides. Where proofs do not share the processors
+    each has one."""
+    if is_shared:
         return [sys.executable, f"{top}/scripts/launcher/lanes.py", f"{top}/docs/gate-times"], {}
-    return ["rt", "ci"], {"RT_JOBS": str(at_once())}
+    return ["rt", "ci"], {"RT_JOBS": str(many)}
 
 
-def folder_of_files():
-    """Where the folder for the files of the checks is made: in memory, where there is enough, or else where temporary files are."""
-    with contextlib.suppress(OSError):
+def has_room_in_memory(many):
+    """Whether the files of so many checks can be in memory."""
+    try:
         there = os.statvfs(IN_MEMORY)
-        if shares() and os.access(IN_MEMORY, os.W_OK) and there.f_bavail * there.f_frsize >= FILES_EACH_KB * 1024 * at_once():
-            return IN_MEMORY
-    return None
+    except OSError:
+        return False
+    return os.access(IN_MEMORY, os.W_OK) and there.f_bavail * there.f_frsize >= FILES_EACH_KB * 1024 * many
 
 
 def copied(top, program, to):
@@ -143,13 +144,15 @@ def prove(top, program, at):
     """Has the kit's gate prove and build the program of this crate in a copy of its crates, which it makes at this place. Gives the path of
     what was built, or None where a crate is not proved or the program does not run; what the gate said of it is printed."""
     need, lists = copied(top, program, at)
-    (words, env), many = call_of(top), at_once()
-    gain = 1.0 if env else progress.GAIN_OF_JOBS
+    many, is_shared = at_once(), shares()
+    words, env = call_of(top, many, is_shared)
+    gain = progress.GAIN_OF_JOBS if is_shared else 1.0
     build = Build(at, progress.Progress(need, lists, progress.times_of(f"{top}/docs/gate-times"), many, gain))
     whole = progress.shown(build.progress.whole)
     print(f"kaffe: {len(need)} crates, {many} at once; about {whole} by docs/gate-times where none is kept", file=sys.stderr, flush=True)
     made = f"{at}/crates/{program}/out/{program}"
-    with tempfile.TemporaryDirectory(prefix="kaffe-", dir=folder_of_files() or os.path.dirname(at), ignore_cleanup_errors=True) as files:
+    place = IN_MEMORY if is_shared and has_room_in_memory(many) else os.path.dirname(at)
+    with tempfile.TemporaryDirectory(prefix="kaffe-", dir=place, ignore_cleanup_errors=True) as files:
         if build.whole(words, env, files) and os.access(made, os.X_OK):
             return made
     print("".join(build.last), end="", file=sys.stderr)

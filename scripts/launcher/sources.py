@@ -21,8 +21,8 @@ def crates_below(top, name=PROGRAM):
     return with_below(lists, name), lists
 
 
-def with_below(lists, *names):
-    """By these lists the crates on which these stand, and themselves, each after those that it stands on."""
+def with_below(lists, name):
+    """By these lists the crates on which this one stands, and itself, each after those that it stands on."""
     found = []
 
     def add(crate):
@@ -31,9 +31,7 @@ def with_below(lists, *names):
                 add(it)
         found.append(crate)
 
-    for name in names:
-        if name not in found:
-            add(name)
+    add(name)
     return found
 
 

@@ -53,20 +53,26 @@ class Processors(unittest.TestCase):
     def call(self, gigabytes, **said):
         with mock.patch.dict(os.environ, said, clear=True), mock.patch("os.sched_getaffinity", return_value={0, 1, 2, 3}):
             with mock.patch("launcher.proving.free_memory", return_value=gigabytes * 1_000_000):
-                return proving.call_of("top"), proving.folder_of_files()
+                return proving.call_of("top", proving.at_once(), proving.shares())
 
     def test_with_ample_memory_proofs_share_the_processors(self):
         for said in ({"HOME": "here"}, {"RT_JOBS": "many"}):
-            (words, env), files = self.call(20, **said)
+            words, env = self.call(20, **said)
             self.assertEqual((words[1:], env), (["top/scripts/launcher/lanes.py", "top/docs/gate-times"], {}))
-            self.assertIn(files, (proving.IN_MEMORY, None))
 
     def test_with_less_memory_each_proof_has_one_processor(self):
         for gigabytes, jobs in [(19, "4"), (8, "3"), (1, "1")]:
-            self.assertEqual(self.call(gigabytes), ((["rt", "ci"], {"RT_JOBS": jobs}), None))
+            self.assertEqual(self.call(gigabytes), (["rt", "ci"], {"RT_JOBS": jobs}))
 
     def test_a_number_that_is_given_is_kept(self):
-        self.assertEqual(self.call(64, RT_JOBS="2"), ((["rt", "ci"], {"RT_JOBS": "2"}), None))
+        self.assertEqual(self.call(64, RT_JOBS="2"), (["rt", "ci"], {"RT_JOBS": "2"}))
+
+    def test_files_are_in_memory_where_each_proof_has_a_gigabyte_there(self):
+        for gigabytes, has_room in [(4, True), (3.9, False)]:
+            with mock.patch("os.statvfs", return_value=mock.Mock(f_bavail=gigabytes * 250_000, f_frsize=4096)), mock.patch("os.access", return_value=True):
+                self.assertEqual(proving.has_room_in_memory(4), has_room)
+        with mock.patch("os.statvfs", side_effect=FileNotFoundError):
+            self.assertFalse(proving.has_room_in_memory(1))
 
 
 # A kit's gate that has a crate, its tests and one above it proved, and says with how many processors; with a word it has an edit tried too.
